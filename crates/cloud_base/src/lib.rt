@@ -1,0 +1,24 @@
+// Values, updates, queries, answers and events, and what the program reads from and writes to.
+#![tactic(auto)]
+
+mod batch;
+mod key;
+mod memory;
+mod name;
+mod schedule;
+mod schema;
+mod sequence;
+mod text;
+mod update;
+
+pub use batch::{Batch, BatchList, End, Stretch, Tail};
+pub use key::{Key, Keys, MOST_KEYS, Uid};
+pub use memory::Memory;
+pub use name::Name;
+pub use schedule::{Fate, Schedule, ScheduleItem};
+pub use schema::{
+    CellType, Entity, EntityList, KeyType, KeyTypeList, Owner, Property, PropertyList, Schema,
+};
+pub use sequence::Sequence;
+pub use text::{MOST_BYTES, Text};
+pub use update::{Answer, CellChange, Event, EventList, IdList, Query, TupleList, Update};

@@ -1,0 +1,6 @@
+// Revision diagrams.
+#![tactic(auto)]
+
+mod step;
+
+pub use step::{EndList, Step, StepList};
