@@ -41,7 +41,8 @@ impl Name {
 
     /// The same name.
     pub fn copy(&self, alloc: Global) -> Result<Name, Memory>
-        ensures { IfOk result (λ name. name ≡ self.now) }
+        ensures copy { IfOk result (λ name. name ≡ self.now) }
+        ensures name { IsName self.now }
     {
         let _ = &self.text;
         Name::new(alloc, self.text.as_str().as_bytes())

@@ -1,5 +1,5 @@
 -- Reading a form from tokens: each reader gives a value and the tokens behind it.
-use Rattle.std.specs.Prelude.{◌≡◌, ℕ, zero, suc, ◌+◌, ◌^◌, Bool, true, false, nat_lt, is_none, List, [], ◌∷◌, ◌++◌, length, Option, Some, None, option_and_then, option_map, if◌then◌else◌}
+use Rattle.std.specs.Prelude.{◌≡◌, ℕ, zero, suc, ◌+◌, ◌^◌, Bool, true, false, nat_lt, is_none, List, [], ◌∷◌, ◌++◌, length, Option, Some, None, option_and_then, option_map, ◌==◌, if◌then◌else◌}
 use Rattle.std.specs.Str.{bytes_eq}
 use Rattle.cloud_parse.specs.declared.terminal.Terminal.{Terminal}
 use Rattle.cloud_parse.specs.declared.terminal.Terminal.TheVariants as terminal
@@ -101,45 +101,47 @@ acts_at (suc n) globals tokens = elim (behind terminal.CloseBrace tokens) [
     Some rest ↦ Some ([], rest)
   | None ↦ act_at globals tokens >>= λ act. acts_at n globals act.1 >>= λ more. Some (act.0 ∷ more.0, more.1) ]
 
--- a declaration of a global that isn't there yet, put behind the others
-unfoldable pub declared_at : List (List ℕ) → List Token → Reads (List (List ℕ))
+-- a declaration of a global that isn't there yet
+unfoldable pub declared_at : List (List ℕ) → List Token → Reads (List ℕ)
 declared_at globals tokens = do
   global ← behind terminal.Global tokens
   name ← name_at global
   colon ← behind terminal.Colon name.1
   type ← behind terminal.CInt colon
   rest ← behind terminal.Semicolon type
-  if nat_lt (length globals) most_globals then (if is_none (place_of name.0 globals) then Some (globals ++ name.0 ∷ [], rest) else None) else None
+  if nat_lt (length globals) most_globals then (if is_none (place_of name.0 globals) then Some (name.0, rest) else None) else None
 
 -- declarations up to the closing brace, fewer than so many, behind those that are there
 unfoldable pub globals_at : ℕ → List (List ℕ) → List Token → Reads (List (List ℕ))
 globals_at zero globals tokens = None
 globals_at (suc n) globals tokens = elim (behind terminal.CloseBrace tokens) [
     Some rest ↦ Some (globals, rest)
-  | None ↦ declared_at globals tokens >>= λ more. globals_at n more.0 more.1 ]
+  | None ↦ declared_at globals tokens >>= λ more. globals_at n (globals ++ more.0 ∷ []) more.1 ]
+
+unfoldable pub schema_opening : List Token → Option (List Token)
+schema_opening tokens = do
+  schema ← behind terminal.Schema tokens
+  behind terminal.OpenBrace schema
 
 unfoldable pub schema_at : List Token → Reads (List (List ℕ))
 schema_at tokens = do
-  schema ← behind terminal.Schema tokens
-  open_brace ← behind terminal.OpenBrace schema
-  globals_at (length open_brace) [] open_brace
+  rest ← schema_opening tokens
+  globals_at (length rest) [] rest
 
-unfoldable pub client_at : List (List ℕ) → List Token → Reads (List ℕ × List Act)
-client_at globals tokens = do
+unfoldable pub client_opening : List Token → Reads (List ℕ)
+client_opening tokens = do
   client ← behind terminal.Client tokens
   name ← name_at client
-  open_brace ← behind terminal.OpenBrace name.1
-  acts ← acts_at (length open_brace) globals open_brace
-  Some ((name.0, acts.0), acts.1)
+  rest ← behind terminal.OpenBrace name.1
+  Some (name.0, rest)
 
-abbrev pub at_end : {A : Type 0} → A × List Token → Option A
-at_end (a, []) = Some a
-at_end (a, token ∷ rest) = None
+unfoldable pub body_at : List (List ℕ) → List Token → Reads (List Act)
+body_at globals tokens = acts_at (length tokens) globals tokens
 
 -- the form of all the tokens
 unfoldable pub form_at : List Token → Option Form
 form_at tokens = do
   globals ← schema_at tokens
-  client ← client_at globals.0 globals.1
-  body ← at_end client
-  Some (record { globals = globals.0; client = body.0; acts = body.1 })
+  client ← client_opening globals.1
+  acts ← body_at globals.0 client.1
+  if length acts.1 == 0 then Some (record { globals = globals.0; client = client.0; acts = acts.0 }) else None

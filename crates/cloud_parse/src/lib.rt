@@ -8,4 +8,4 @@ mod tree;
 
 pub use terminal::{SYMBOLS, Terminal, WORDS};
 pub use token::{Token, tokens};
-pub use tree::{Act, Amount, Operation, Tree};
+pub use tree::{Act, Amount, MOST_GLOBALS, Operation, Tree};

@@ -1,11 +1,13 @@
 // Reading a tree from tokens. Each reader gives a value and the tokens behind it.
 ghost use Rattle.std.specs.Prelude.{◌≡◌, [], ◌∷◌, ◌++◌, ◌^◌, ◌<◌, ◌≤◌, length, option_map, IfOk, IfSome, MatchOption};
+ghost use Rattle.std.specs.List.{AllByRecursion};
+ghost use Rattle.cloud_base.specs.Values.{IsName};
 ghost use Rattle.cloud_parse.specs.Form.{place_of, most_globals};
-ghost use Rattle.cloud_parse.specs.Reading.{behind, name_at, number_at, amount_at, operation_at, global_at, change_at, print_at, act_at, acts_at, declared_at, globals_at, schema_at, client_at, form_at};
+ghost use Rattle.cloud_parse.specs.Reading.{behind, name_at, number_at, amount_at, operation_at, global_at, change_at, print_at, act_at, acts_at, declared_at, globals_at, schema_opening, schema_at, client_opening, body_at, form_at};
 
 use crate::terminal::Terminal;
 use crate::token::Token;
-use crate::tree::{Act, Amount, Operation, Tree};
+use crate::tree::{Act, Amount, MOST_GLOBALS, Operation, Tree};
 use cloud_base::{Memory, Name, Sequence};
 use std::alloc::Global;
 
@@ -128,4 +130,122 @@ fn act_at<'a>(globals: &[Name], tokens: &'a [Token]) -> Option<(Act, &'a [Token]
         return Some((Act::Yield, rest));
     }
     change_at(globals, tokens)
+}
+
+// The acts up to the closing brace.
+#[tactic(auto, unfolding(crate::specs::Reading::body_at))]
+fn body_at<'a>(
+    alloc: Global,
+    globals: &[Name],
+    tokens: &'a [Token],
+) -> Result<Option<(Sequence<Act>, &'a [Token])>, Memory>
+    requires { length globals.now ≤ most_globals }
+    ensures { IfOk result (λ found. option_map (λ found. (found.0, found.1.now)) found ≡ body_at globals.now tokens.now) }
+{
+    let mut acts = Sequence::new(alloc);
+    let mut rest = tokens;
+    for _turn in 0..tokens.len() {
+        if let Some(after) = behind(rest, Terminal::CloseBrace) {
+            return Ok(Some((acts, after)));
+        }
+        let Some((act, after)) = act_at(globals, rest) else {
+            return Ok(None);
+        };
+        acts.push(act)?;
+        rest = after;
+    }
+    Ok(None)
+}
+
+// A declaration of a global that isn't there yet.
+#[tactic(auto, unfolding(crate::specs::Reading::declared_at))]
+fn declared_at<'a>(globals: &[Name], tokens: &'a [Token]) -> Option<(&'a Name, &'a [Token])>
+    ensures { option_map (λ found. (found.0.now, found.1.now)) result ≡ declared_at globals.now tokens.now }
+{
+    let rest = behind(tokens, Terminal::Global)?;
+    let (name, rest) = name_at(rest)?;
+    let rest = behind(rest, Terminal::Colon)?;
+    let rest = behind(rest, Terminal::CInt)?;
+    let rest = behind(rest, Terminal::Semicolon)?;
+    if globals.len() < MOST_GLOBALS && place_of(globals, name).is_none() {
+        Some((name, rest))
+    } else {
+        None
+    }
+}
+
+// The declarations up to the closing brace.
+fn globals_at(
+    alloc: Global,
+    tokens: &[Token],
+) -> Result<Option<(Sequence<Name>, &[Token])>, Memory>
+    ensures globals { IfOk result (λ found. option_map (λ found. (found.0, found.1.now)) found ≡ globals_at (length tokens.now) [] tokens.now) }
+    ensures names { IfOk result (λ found. IfSome found (λ found. AllByRecursion IsName found.0)) }
+{
+    let mut globals = Sequence::new(alloc);
+    let mut rest = tokens;
+    for _turn in 0..tokens.len() {
+        if let Some(after) = behind(rest, Terminal::CloseBrace) {
+            return Ok(Some((globals, after)));
+        }
+        let Some((name, after)) = declared_at(globals.as_slice(), rest) else {
+            return Ok(None);
+        };
+        globals.push(name.copy(alloc)?)?;
+        rest = after;
+    }
+    Ok(None)
+}
+
+#[tactic(auto, unfolding(crate::specs::Reading::schema_opening))]
+fn schema_opening(tokens: &[Token]) -> Option<&[Token]>
+    ensures { option_map (λ rest. rest.now) result ≡ schema_opening tokens.now }
+{
+    let rest = behind(tokens, Terminal::Schema)?;
+    behind(rest, Terminal::OpenBrace)
+}
+
+#[tactic(auto, unfolding(crate::specs::Reading::client_opening))]
+fn client_opening(tokens: &[Token]) -> Option<(&Name, &[Token])>
+    ensures { option_map (λ found. (found.0.now, found.1.now)) result ≡ client_opening tokens.now }
+{
+    let rest = behind(tokens, Terminal::Client)?;
+    let (name, rest) = name_at(rest)?;
+    let rest = behind(rest, Terminal::OpenBrace)?;
+    Some((name, rest))
+}
+
+#[tactic(auto, unfolding(crate::specs::Reading::schema_at))]
+fn schema_at(
+    alloc: Global,
+    tokens: &[Token],
+) -> Result<Option<(Sequence<Name>, &[Token])>, Memory>
+    ensures globals { IfOk result (λ found. option_map (λ found. (found.0, found.1.now)) found ≡ schema_at tokens.now) }
+    ensures names { IfOk result (λ found. IfSome found (λ found. AllByRecursion IsName found.0)) }
+{
+    match schema_opening(tokens) {
+        Some(rest) => globals_at(alloc, rest),
+        None => Ok(None),
+    }
+}
+
+/// The tree of these tokens, where they are those of one.
+#[tactic(auto, using(crate::proofs::Sound::schema_fits, crate::proofs::Sound::body_fits), unfolding(crate::specs::Reading::form_at))]
+pub fn read(alloc: Global, tokens: &[Token]) -> Result<Option<Tree>, Memory>
+    ensures { IfOk result (λ found. found ≡ form_at tokens.now) }
+{
+    let Some((globals, rest)) = schema_at(alloc, tokens)? else {
+        return Ok(None);
+    };
+    let Some((client, rest)) = client_opening(rest) else {
+        return Ok(None);
+    };
+    let client = client.copy(alloc)?;
+    let Some((acts, rest)) = body_at(alloc, globals.as_slice(), rest)? else {
+        return Ok(None);
+    };
+    if !rest.is_empty() {
+        return Ok(None);
+    }
+    Ok(Some(Tree::new(globals, client, acts)))
 }

@@ -5,6 +5,9 @@ ghost use Rattle.cloud_parse.specs.Form.{Form, IsForm, amount_value};
 use cloud_base::{Name, Sequence};
 use std::marker::Model;
 
+/// The most globals of a source.
+pub const MOST_GLOBALS: usize = 256;
+
 /// What an act does to a global.
 #[derive(Clone, Copy, Debug, PartialEq, Eq)]
 pub enum Operation {
