@@ -5,4 +5,5 @@ pub mod Order
 pub mod PlainCell
 pub mod Shaped
 pub mod Sorted
+pub mod Texts
 pub mod Values
