@@ -1,1 +1,4 @@
+mod LogLemmas
+mod OrderLemmas
+mod SortedLemmas
 mod TextLemmas
