@@ -1,4 +1,6 @@
+mod DeadLemmas
 mod LogLemmas
 mod OrderLemmas
+mod PlainLemmas
 mod SortedLemmas
 mod TextLemmas

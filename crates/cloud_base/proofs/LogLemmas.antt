@@ -26,7 +26,7 @@ deleted_member id (Delete v ∷ log) h =
     ] in
     at refl h
 
-or_right : (x : Bool) → (x || true) ≡ true
+pub or_right : (x : Bool) → (x || true) ≡ true
 or_right true = refl
 or_right false = refl
 
