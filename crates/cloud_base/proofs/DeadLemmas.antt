@@ -3,12 +3,12 @@ use Rattle.std.proofs.Common.{◌≡◌, refl, sym, ◌∙◌, ap, subst, ℕ, z
 use Rattle.std.specs.Prelude.{◌⊎◌, Contains, IsTrue}
 use Rattle.std.specs.Bool.{Decides}
 use Rattle.std.specs.List.{list_any}
-use Rattle.std.proofs.lemmas.Bool.{cases_Bool, or_cases}
+use Rattle.std.proofs.lemmas.Bool.{cases_Bool, or_cases, false≢true}
 use Rattle.std.proofs.lemmas.Bool.Decides.{same_from_decides}
 use Rattle.std.proofs.lemmas.List.Elements.{Contains-append_left}
 use Rattle.cloud_base.specs.Values.{Id}
 use Rattle.cloud_base.specs.Order.{same_id}
-use Rattle.cloud_base.specs.Log.{Creation, creation, created, is_deleted, parents, parents_of, ids_of}
+use Rattle.cloud_base.specs.Log.{Creation, of_cell, creation, created, is_deleted, parents, parents_of, ids_of}
 use Rattle.cloud_base.specs.Dead.{Chain, Dead, dead_within, is_dead, has_dead}
 use Rattle.cloud_base.specs.Alike.{Alike, IsPart}
 use Rattle.cloud_base.specs.Shaped.{CreatedOnce}
@@ -162,3 +162,24 @@ same_any p q (x ∷ xs) f = let a = f x (here x xs) in let b = same_any p q xs (
 
 pub has_dead_same : (log other : List Update) (keys : List Key) → ((id : Id) → Contains (ids_of keys) id → is_dead log id ≡ is_dead other id) → has_dead log keys ≡ has_dead other keys
 has_dead_same log other keys f = same_any (is_dead log) (is_dead other) (ids_of keys) f
+
+-- ---- logs of the same members
+
+one_creation : (id : Id) (log other : List Update) (o p : Option Creation) → creation id log ≡ o → creation id other ≡ p → IsPart log other → IsPart other log → CreatedOnce log → CreatedOnce other → o ≡ p
+one_creation id log other (Some c) p e k f g once once' = sym (creation_grows log other id c f once' e) ∙ k
+one_creation id log other None (Some c) e k f g once once' = sym e ∙ creation_grows other log id c g once k
+one_creation id log other None None e k f g once once' = refl
+
+deleted_same : (id : Id) (log other : List Update) (b : Bool) → is_deleted id log ≡ b → IsPart log other → IsPart other log → b ≡ is_deleted id other
+deleted_same id log other true e f g = sym (member_deleted id other (f (Delete id) (deleted_member id log e)))
+deleted_same id log other false e f g = elim (cases_Bool (is_deleted id other)) [
+    inl t ↦ absurd (false≢true (sym e ∙ member_deleted id log (g (Delete id) (deleted_member id other t))))
+  | inr h ↦ sym h
+  ]
+
+pub alike_members : (log other : List Update) → CreatedOnce log → CreatedOnce other → IsPart log other → IsPart other log → ((property : ℕ) (keys : List Key) → of_cell property keys log ≡ of_cell property keys other) → Alike log other
+alike_members log other once once' f g changes = record {
+  changes = changes;
+  creations = λ id. one_creation id log other (creation id log) (creation id other) refl refl f g once once';
+  deletions = λ id. deleted_same id log other (is_deleted id log) refl f g;
+}

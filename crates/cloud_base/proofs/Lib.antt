@@ -1,3 +1,4 @@
+mod AnswerLemmas
 mod DeadLemmas
 mod LogLemmas
 mod OrderLemmas

@@ -2,7 +2,7 @@
 use Rattle.std.proofs.Common.{◌≡◌, refl, sym, ◌∙◌, ap, subst, ℕ, Bool, true, false, cond, List, [], ◌∷◌, ◌++◌, ◌||◌}
 use Rattle.std.specs.Prelude.{ℤ, pos, negsuc, ◌+ℤ◌, FitsSigned}
 use Rattle.std.specs.Int.{w64, int_wrap}
-use Rattle.std.proofs.lemmas.Int.{int_wrap-add_left, SFits-int_wrap, ints}
+use Rattle.std.proofs.lemmas.Int.{int_wrap-add_left, int_wrap_fits, SFits-int_wrap, ints}
 use Rattle.std.proofs.Common.{arith}
 use Rattle.cloud_base.specs.PlainCell.{has_set, last_set, adds_after, plain_int, if_empty, walk_text, plain_text}
 use Rattle.cloud_base.specs.declared.update.CellChange.{CellChange}
@@ -110,3 +110,19 @@ walk_on now (SetIfEmpty t ∷ first) second = walk_on (if_empty now t) first sec
 pub text_more : (changes : List CellChange) (c : CellChange) → plain_text (changes ++ c ∷ []) ≡ walk_text (plain_text changes) (c ∷ [])
 unfolding plain_text
 text_more changes c = walk_on [] changes (c ∷ [])
+
+-- a change of text leaves the integer
+int_same : (changes : List CellChange) (c : CellChange) → has_set (c ∷ []) ≡ false → last_set (c ∷ []) ≡ pos 0 → part c ≡ pos 0 → plain_int (changes ++ c ∷ []) ≡ plain_int changes
+int_same changes c h z p =
+    int_more changes c h z
+      ∙ ap (λ n. int_wrap w64 (plain_int changes +ℤ n)) p
+      ∙ ap (int_wrap w64) (add_zero (plain_int changes))
+      ∙ int_wrap_fits w64 (plain_int changes) (int_fits changes)
+
+pub int_text : (changes : List CellChange) (t : List ℕ) → (plain_int (changes ++ SetText t ∷ []) ≡ plain_int changes) × (plain_int (changes ++ SetIfEmpty t ∷ []) ≡ plain_int changes)
+unfolding part
+int_text changes t = (int_same changes (SetText t) refl refl refl, int_same changes (SetIfEmpty t) refl refl refl)
+
+pub text_walk : (first second : List CellChange) → plain_text (first ++ second) ≡ walk_text (plain_text first) second
+unfolding plain_text
+text_walk first second = walk_on [] first second
