@@ -1,10 +1,11 @@
 -- What a log's creations and deletions are, by its members.
 use Rattle.std.proofs.Common.{◌≡◌, refl, sym, ◌∙◌, ap, subst, ℕ, zero, suc, ◌<◌, ◌≤◌, Bool, true, false, not, ◌&&◌, ◌||◌, cond, List, [], ◌∷◌, ◌++◌, length, inl, inr, arith, Option, Some, None}
-use Rattle.std.specs.Prelude.{◌⊎◌, Contains, is_some, IsTrue}
+use Rattle.std.specs.Prelude.{◌⊎◌, Contains, is_some, IsTrue, ◌==◌}
+use Rattle.std.specs.Option.{option_or}
 use Rattle.std.proofs.lemmas.Bool.{cases_Bool}
 use Rattle.cloud_base.specs.Values.{Id}
-use Rattle.cloud_base.specs.Order.{same_id}
-use Rattle.cloud_base.specs.Log.{Creation, creation, created, is_created, is_deleted, parents, parents_of, ids_of}
+use Rattle.cloud_base.specs.Order.{same_id, same_keys}
+use Rattle.cloud_base.specs.Log.{Creation, of_cell, touched, creation, created, is_created, is_deleted, parents, parents_of, ids_of}
 use Rattle.cloud_base.specs.Shaped.{NoRepeat, CreatedOnce}
 use Rattle.cloud_base.specs.declared.key.Key.{Key}
 use Rattle.cloud_base.specs.declared.update.Update.{Update}
@@ -155,3 +156,48 @@ one_fewer u (Create v e ks ∷ log) c h =
     let k = fewer u log in
     let at : P (same_id v u) = elim (same_id v u) as P [ true ↦ λ t. omega arith | false ↦ λ t. let m = one_fewer u log c t in omega arith ] in
     at h
+
+-- ---- two logs, one after the other
+
+pub of_cell_parts : (property : ℕ) (keys : List Key) (log more : List Update) → of_cell property keys (log ++ more) ≡ of_cell property keys log ++ of_cell property keys more
+of_cell_parts property keys [] more = refl
+of_cell_parts property keys (Create id e ks ∷ log) more = of_cell_parts property keys log more
+of_cell_parts property keys (Delete id ∷ log) more = of_cell_parts property keys log more
+of_cell_parts property keys (Cell p ks c ∷ log) more =
+    let rest = of_cell_parts property keys log more in
+    let P : Bool → Type 0 = λ b. cond b (c ∷ of_cell property keys (log ++ more)) (of_cell property keys (log ++ more)) ≡ cond b (c ∷ of_cell property keys log) (of_cell property keys log) ++ of_cell property keys more in
+    elim ((p == property) && same_keys ks keys) as P [ true ↦ ap (λ cs. c ∷ cs) rest | false ↦ rest ]
+
+pub touched_parts : (property : ℕ) (log more : List Update) → touched property (log ++ more) ≡ touched property log ++ touched property more
+touched_parts property [] more = refl
+touched_parts property (Create id e ks ∷ log) more = touched_parts property log more
+touched_parts property (Delete id ∷ log) more = touched_parts property log more
+touched_parts property (Cell p ks c ∷ log) more =
+    let rest = touched_parts property log more in
+    let P : Bool → Type 0 = λ b. cond b (ks ∷ touched property (log ++ more)) (touched property (log ++ more)) ≡ cond b (ks ∷ touched property log) (touched property log) ++ touched property more in
+    elim (p == property) as P [ true ↦ ap (λ cs. ks ∷ cs) rest | false ↦ rest ]
+
+pub created_parts : (log more : List Update) → created (log ++ more) ≡ created log ++ created more
+created_parts [] more = refl
+created_parts (Cell p ks c ∷ log) more = created_parts log more
+created_parts (Create id e ks ∷ log) more = ap (λ ids. id ∷ ids) (created_parts log more)
+created_parts (Delete id ∷ log) more = created_parts log more
+
+or_assoc : (x y z : Bool) → (x || (y || z)) ≡ ((x || y) || z)
+or_assoc true y z = refl
+or_assoc false y z = refl
+
+pub deleted_parts : (id : Id) (log more : List Update) → is_deleted id (log ++ more) ≡ (is_deleted id log || is_deleted id more)
+deleted_parts id [] more = refl
+deleted_parts id (Cell p ks c ∷ log) more = deleted_parts id log more
+deleted_parts id (Create v e ks ∷ log) more = deleted_parts id log more
+deleted_parts id (Delete v ∷ log) more = ap (λ b. same_id v id || b) (deleted_parts id log more) ∙ or_assoc (same_id v id) (is_deleted id log) (is_deleted id more)
+
+pub creation_parts : (id : Id) (log more : List Update) → creation id (log ++ more) ≡ option_or (creation id log) (creation id more)
+creation_parts id [] more = refl
+creation_parts id (Cell p ks c ∷ log) more = creation_parts id log more
+creation_parts id (Delete v ∷ log) more = creation_parts id log more
+creation_parts id (Create v e ks ∷ log) more =
+    let first : Option Creation = Some (record { entity = e; keys = ks }) in
+    let P : Bool → Type 0 = λ b. cond b first (creation id (log ++ more)) ≡ option_or (cond b first (creation id log)) (creation id more) in
+    elim (same_id v id) as P [ true ↦ refl | false ↦ creation_parts id log more ]

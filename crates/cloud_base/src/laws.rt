@@ -1,12 +1,13 @@
 // What follows from the definitions alone.
-ghost use Rattle.std.specs.Prelude.{◌≡◌, ◌↔◌, List, [], ◌∷◌, ◌++◌, ℕ, Bool, ℤ, ◌+ℤ◌, IsTrue, Contains, FitsSigned};
+ghost use Rattle.std.specs.Prelude.{◌≡◌, ◌↔◌, List, [], ◌∷◌, ◌++◌, ℕ, Bool, ◌||◌, ℤ, ◌+ℤ◌, IsTrue, Contains, FitsSigned};
+ghost use Rattle.std.specs.Option.{option_or};
 ghost use Rattle.std.specs.Int.{w64, int_wrap};
 ghost use Rattle.std.specs.Cmp.{IsTotalOrder};
 ghost use Rattle.cloud_base.specs.Values.{Id};
 ghost use Rattle.cloud_base.specs.Order.{id_order, text_order, key_order, keys_order, same_id, same_keys};
 ghost use Rattle.cloud_base.specs.Sorted.{Lists};
 ghost use Rattle.cloud_base.specs.PlainCell.{plain_int, plain_text, walk_text};
-ghost use Rattle.cloud_base.specs.Log.{of_cell, ids_of};
+ghost use Rattle.cloud_base.specs.Log.{of_cell, touched, created, creation, is_deleted, ids_of};
 ghost use Rattle.cloud_base.specs.Dead.{Chain, Dead, is_dead};
 ghost use Rattle.cloud_base.specs.Shaped.{Fit, CreatedOnce};
 ghost use Rattle.cloud_base.specs.Alike.{Alike, IsPart};
@@ -54,6 +55,16 @@ pub fn plain_steps()
     ensures add { (changes : List CellChange) (n : ℤ) → plain_int (changes ++ CellChange.Add n ∷ []) ≡ int_wrap w64 (plain_int changes +ℤ n) }
     ensures fits { (changes : List CellChange) → FitsSigned w64 (plain_int changes) }
     ensures text { (first second : List CellChange) → plain_text (first ++ second) ≡ walk_text (plain_text first) second }
+{
+}
+
+/// What two logs one after the other hold.
+pub fn log_parts()
+    ensures changes { (property : ℕ) (keys : List Key) (log more : List Update) → of_cell property keys (log ++ more) ≡ of_cell property keys log ++ of_cell property keys more }
+    ensures touched { (property : ℕ) (log more : List Update) → touched property (log ++ more) ≡ touched property log ++ touched property more }
+    ensures created { (log more : List Update) → created (log ++ more) ≡ created log ++ created more }
+    ensures creation { (id : Id) (log more : List Update) → creation id (log ++ more) ≡ option_or (creation id log) (creation id more) }
+    ensures deleted { (id : Id) (log more : List Update) → is_deleted id (log ++ more) ≡ (is_deleted id log || is_deleted id more) }
 {
 }
 
