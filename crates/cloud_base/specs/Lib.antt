@@ -1,3 +1,12 @@
 pub mod Causes
 pub mod Streams
+pub mod Alike
+pub mod Answer
+pub mod Dead
+pub mod Log
+pub mod Order
+pub mod PlainCell
+pub mod Shaped
+pub mod Sorted
+pub mod Texts
 pub mod Values

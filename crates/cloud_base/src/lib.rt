@@ -3,6 +3,7 @@
 
 mod batch;
 mod key;
+mod laws;
 mod memory;
 mod memory_ends;
 mod name;
@@ -16,6 +17,10 @@ mod update;
 
 pub use batch::{Batch, BatchList, End, Stretch, Tail};
 pub use key::{Key, Keys, MOST_KEYS, Uid};
+pub use laws::{
+    alike_answers, answers_list, ascending_lists, dead_by_chains, dead_by_members, dead_grows, derived_orders,
+    get_depends_on, log_parts, plain_steps, total_orders,
+};
 pub use memory::Memory;
 pub use memory_ends::{MemSink, MemSource};
 pub use name::Name;
@@ -26,5 +31,5 @@ pub use schema::{
 };
 pub use sequence::Sequence;
 pub use standard::{StdSink, StdSource};
-pub use text::{MOST_BYTES, Text};
+pub use text::{MOST_BYTES, Text, TextFault};
 pub use update::{Answer, CellChange, Event, EventList, IdList, Query, TupleList, Update};
