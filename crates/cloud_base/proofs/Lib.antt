@@ -1,1 +1,7 @@
+mod AnswerLemmas
+mod DeadLemmas
+mod LogLemmas
+mod OrderLemmas
+mod PlainLemmas
+mod SortedLemmas
 mod TextLemmas
