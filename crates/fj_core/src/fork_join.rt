@@ -76,6 +76,11 @@ pub trait ForkJoin: Drop {
         ensures { (base delta more : List Self.Change) → stands self.old base delta
             → effect_of more ≡ Some effect.now → stands self.new base (delta ++ more) };
 
+    /// The same state. What keeps many cells builds a change of them all aside from copies, so that a
+    /// refusal for memory leaves them as they were.
+    fn copied(&self) -> Self
+        ensures { result ≡ self.now };
+
     /// A state stands for all lists with the same value before and the same effect since.
     ghost stands_by_effect: { (state : Self) (base delta base' delta' : List Self.Change)
         → plain base ≡ plain base' → effect_of delta ≡ effect_of delta'

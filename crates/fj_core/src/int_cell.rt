@@ -110,6 +110,14 @@ impl ForkJoin for IntCell {
         }
     }
 
+    fn copied(&self) -> IntCell {
+        IntCell {
+            was_set: self.was_set,
+            base: self.base,
+            difference: self.difference,
+        }
+    }
+
     ghost stands_by_effect = { int_stands_by_effect };
 
     ghost plain_append = { int_plain-append };

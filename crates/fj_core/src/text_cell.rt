@@ -20,6 +20,18 @@ enum Done {
     Set(Text),
 }
 
+impl Done {
+    fn copied(&self) -> Done
+        ensures { result ≡ self.now }
+    {
+        match self {
+            Done::Keep => Done::Keep,
+            Done::IfEmpty(text) => Done::IfEmpty(text.copied()),
+            Done::Set(text) => Done::Set(text.copied()),
+        }
+    }
+}
+
 /// A text, as the text at the fork and what was done since.
 #[derive(Drop)]
 pub struct TextCell {
@@ -130,6 +142,13 @@ impl ForkJoin for TextCell {
             Effect::SetText(text) => self.done = Done::Set(text.copied()),
             Effect::IfEmpty(text) => self.offer(text.copied()),
             _ => unreachable!(),
+        }
+    }
+
+    fn copied(&self) -> TextCell {
+        TextCell {
+            base: self.base.copied(),
+            done: self.done.copied(),
         }
     }
 
