@@ -189,7 +189,7 @@ EachPrefix P steps = PrefixesFrom P [] steps
 -- the places of the steps that pass, told the steps before it
 abbrev pub places_from : (List Step → Step → Bool) → List Step → List Step → List ℕ
 places_from test front [] = []
-places_from test front (s ∷ rest) = cond (test front s) (length front ∷ places_from test (front ++ s ∷ []) rest) (places_from test (front ++ s ∷ []) rest)
+places_from test front (s ∷ rest) = cond (test front s) (length front ∷ []) [] ++ places_from test (front ++ s ∷ []) rest
 
 abbrev pub places_of : (List Step → Step → Bool) → List Step → List ℕ
 places_of test steps = places_from test [] steps

@@ -4,4 +4,3 @@ pub mod Right
 pub mod Once
 pub mod Story
 pub mod Meeting
-pub mod Worked

@@ -1,0 +1,4 @@
+pub mod Steps
+pub mod Range
+pub mod Decide
+pub mod Worked
