@@ -1,6 +1,7 @@
 -- Worked diagrams: a grocery list, which is right, and small wrong ones.
-use Rattle.std.specs.Prelude.{◌≡◌, ℕ, ◌+◌, Bool, true, false, cond, ◌&&◌, not, ◌==◌, List, [], ◌∷◌, map, pos, refl}
-use Rattle.std.proofs.Common.{lit<}
+use Rattle.std.specs.Prelude.{◌≡◌, ℕ, ◌+◌, Bool, true, false, cond, ◌&&◌, not, ◌==◌, List, [], ◌∷◌, map, Option, Some, None, pos, refl}
+use Rattle.std.proofs.Common.{lit<, arith}
+use Rattle.std.proofs.lemmas.Bool.Decides.{nat_tests}
 use Rattle.std.specs.List.{filter}
 use Rattle.cloud_base.specs.declared.update.Update.{Update}
 use Rattle.cloud_base.specs.declared.update.Update.TheVariants.{Cell}
@@ -9,6 +10,10 @@ use Rattle.cloud_base.specs.declared.update.Query.{Query}
 use Rattle.cloud_base.specs.declared.update.Query.TheVariants.{Get, All, Entries, Alive}
 use Rattle.cloud_base.specs.declared.update.Answer.{Answer}
 use Rattle.cloud_base.specs.declared.update.Answer.TheVariants.{Int, Text, Truth, Tuples}
+use Rattle.cloud_base.specs.declared.update.Event.{Event}
+use Rattle.cloud_base.specs.declared.update.Event.TheVariants.{Do as DoEvent, Ask as AskEvent, Say as SayEvent, Flush}
+use Rattle.cloud_base.specs.declared.batch.End.{End}
+use Rattle.cloud_base.specs.declared.batch.End.TheVariants.{Done}
 use Rattle.cloud_base.specs.declared.key.Key.{Key}
 use Rattle.cloud_base.specs.declared.key.Key.TheVariants.{Text as TextKey}
 use Rattle.revision_diagram.specs.declared.step.Step.{Step}
@@ -16,9 +21,9 @@ use Rattle.revision_diagram.specs.declared.step.Step.TheVariants.{Fork, Join, Do
 use Rattle.revision_diagram.specs.Diagram.{path, acts_on}
 use Rattle.revision_diagram.specs.Lawful.{lawful, Lawful}
 use Rattle.revision_diagram.specs.Right.{AnsweredRight}
-use Rattle.revision_diagram.specs.Once.{Once}
-use Rattle.revision_diagram.specs.Story.{story, is_in_line, LineLaw}
-use Rattle.revision_diagram.specs.Meeting.{Meeting, is_placed, is_at_mark, below_server}
+use Rattle.revision_diagram.specs.Once.{Once, AfterSeen}
+use Rattle.revision_diagram.specs.Story.{story, is_in_line, LineLaw, ProgramLaw}
+use Rattle.revision_diagram.specs.Meeting.{Meeting, Placed, AtMarks, FlushLaw, is_placed, is_at_mark, below_server}
 use Rattle.revision_diagram.proofs.Decide.{each_step_passes, once_passes, AnsweredRight_passes}
 
 -- A grocery list: Grocery["milk"].quantity and Grocery["eggs"].quantity are cells of property 0.
@@ -126,3 +131,72 @@ grocery_meets = record {
     ),
   );
 }
+
+-- ann's program: add milk, flush, print the milk
+abbrev pub ann_trace : List Answer → List Event × Option End
+ann_trace [] = (DoEvent (Cell 0 (TextKey milk ∷ []) (Add (pos 2))) ∷ Flush ∷ [], None)
+ann_trace (a ∷ answers) = (DoEvent (Cell 0 (TextKey milk ∷ []) (Add (pos 2))) ∷ Flush ∷ AskEvent (Get 0 (TextKey milk ∷ [])) a ∷ SayEvent a ∷ [], Some Done)
+
+pub ann_runs_her_program : ProgramLaw ann_trace (Some Done) grocery_list 0
+ann_runs_her_program = refl
+
+-- Wrong ones: each is refused by the definition that it breaks.
+
+pub joins_server : ¬ (Lawful (Fork 0 0 ∷ Join 1 0 ∷ []))
+joins_server h = let no = h.1.0 in cc
+
+pub joins_itself : ¬ (Lawful (Fork 0 0 ∷ Join 1 1 ∷ []))
+joins_itself h = let no = h.1.0 in cc
+
+-- revision 2 has not seen the fork of 3
+pub joins_unseen_fork : ¬ (Lawful (Fork 0 0 ∷ Fork 0 1 ∷ Fork 1 0 ∷ Join 2 3 ∷ []))
+joins_unseen_fork h = let no = h.1.1.1.0 in cc
+
+pub joins_twice : ¬ (Lawful (Fork 0 0 ∷ Join 0 1 ∷ Join 0 1 ∷ []))
+joins_twice h = let no = h.1.1.0 in cc
+
+pub acts_when_joined : ¬ (Lawful (Fork 0 0 ∷ Join 0 1 ∷ yield 1 ∷ []))
+acts_when_joined h = let no = h.1.1.0 in cc
+
+pub forks_nobody : ¬ (Lawful (Fork 1 0 ∷ []))
+forks_nobody h = let no = h.0 in cc
+
+-- A lawful join of a revision into its own fork, which has its update already.
+abbrev pub doubled : List Step
+doubled = Fork 0 0 ∷ add 1 milk 2 ∷ Fork 1 0 ∷ Join 2 1 ∷ []
+
+pub doubled_is_lawful : Lawful doubled
+doubled_is_lawful = each_step_passes lawful doubled refl
+
+pub doubled_path : path doubled 2 ≡ 1 ∷ 1 ∷ []
+doubled_path = refl
+
+pub doubles : ¬ (Once doubled)
+doubles h = let no = (h.1.1.1.1 2 refl).0 1 in cc
+
+-- eggs were added by who had seen the milk, and stand before it
+abbrev pub out_of_order : List Step
+out_of_order = Fork 0 0 ∷ add 1 milk 2 ∷ Fork 1 0 ∷ add 2 eggs 12 ∷ Join 0 2 ∷ Join 0 1 ∷ []
+
+pub out_of_order_path : path out_of_order 0 ≡ 3 ∷ 1 ∷ []
+out_of_order_path = refl
+
+pub comes_before_seen : ¬ (AfterSeen out_of_order 0)
+comes_before_seen h = cc
+
+-- the answer is the server's, which has not seen the milk
+pub answers_other_path : ¬ (AnsweredRight grocery_answers (Fork 0 0 ∷ add 1 milk 2 ∷ get 1 milk 0 ∷ []))
+answers_other_path h = let no = h.1.1.0 in cc
+
+-- a client goes on at a revision that has not seen what it did
+pub forgets_its_past : ¬ (LineLaw (Fork 0 0 ∷ Fork 0 0 ∷ add 1 milk 2 ∷ add 2 milk 2 ∷ []) 0)
+forgets_its_past h = let no = h.1.1.1.0 in cc
+
+pub joins_before_mark : ¬ (AtMarks below_server (Fork 0 0 ∷ add 1 milk 2 ∷ Join 0 1 ∷ yield 1 ∷ []))
+joins_before_mark h = let no = h.1.1.0 in cc
+
+pub joins_other_client : ¬ (Placed below_server (Fork 0 0 ∷ Fork 0 1 ∷ Join 1 2 ∷ []))
+joins_other_client h = let no = h.1.1.0 in cc
+
+pub goes_on_in_flush : ¬ (FlushLaw below_server (Fork 0 0 ∷ flush 1 ∷ get 1 milk 0 ∷ []))
+goes_on_in_flush h = let at = h.0.later in let seen = h.0.seen in grind (arith, nat_tests, h.0.later, h.0.seen)
