@@ -2,3 +2,4 @@ pub mod Steps
 pub mod Range
 pub mod Decide
 pub mod Worked
+pub mod Draws
