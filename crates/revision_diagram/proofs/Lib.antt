@@ -3,3 +3,4 @@ pub mod Range
 pub mod Decide
 pub mod Worked
 pub mod Draws
+pub mod Logs
