@@ -4,3 +4,4 @@ pub mod Decide
 pub mod Worked
 pub mod Draws
 pub mod Logs
+pub mod Marks

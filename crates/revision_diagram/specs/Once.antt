@@ -1,9 +1,9 @@
 -- Every update stands once on each path that reaches it, after all that its revision had seen.
-use Rattle.std.specs.Prelude.{◌≡◌, ℕ, Bool, true, false, cond, ◌&&◌, ◌==◌, List, [], ◌∷◌, ◌++◌, take, slice_get, Option, Some, None, IsTrue}
+use Rattle.std.specs.Prelude.{◌≡◌, ℕ, Bool, true, false, cond, ◌&&◌, not, ◌==◌, List, [], ◌∷◌, ◌++◌, take, drop, slice_get, Option, Some, None, IsTrue}
 use Rattle.std.specs.List.{count_by, list_any, list_all}
 use Rattle.revision_diagram.specs.declared.step.Step.{Step}
 use Rattle.revision_diagram.specs.declared.step.Step.TheVariants.{Fork, Join, Do, Ask, Say, Mark}
-use Rattle.revision_diagram.specs.Diagram.{EachPrefix, live, past, path}
+use Rattle.revision_diagram.specs.Diagram.{EachPrefix, live, past, path, fork_length}
 
 -- is place i on the path?
 abbrev pub stands_on : List ℕ → ℕ → Bool
@@ -57,3 +57,13 @@ StandOnce steps = (r : ℕ) → IsTrue (live steps r) → StandsOnce steps r × 
 
 abbrev pub Once : List Step → Type 0
 Once steps = EachPrefix StandOnce steps
+
+-- What s's path had at its fork stands on r's path, and nothing that it has past that does. It is said of
+-- a join, and is what a join needs to keep each place once.
+abbrev pub joins_apart : List Step → Step → Bool
+joins_apart front (Join r s) = list_all (stands_on (path front r)) (take (fork_length front s) (path front s)) && list_all (λ i. not (stands_on (path front r) i)) (drop (fork_length front s) (path front s))
+joins_apart front (Fork r c) = true
+joins_apart front (Do r u) = true
+joins_apart front (Ask r q a) = true
+joins_apart front (Say r v) = true
+joins_apart front (Mark r flush) = true
