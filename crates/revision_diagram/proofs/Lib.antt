@@ -5,3 +5,5 @@ pub mod Worked
 pub mod Draws
 pub mod Logs
 pub mod Marks
+pub mod Order
+pub mod KeepsOnce
