@@ -7,3 +7,5 @@ pub mod Logs
 pub mod Marks
 pub mod Order
 pub mod KeepsOnce
+pub mod Places
+pub mod Stories
