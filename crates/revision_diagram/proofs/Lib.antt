@@ -9,3 +9,4 @@ pub mod Order
 pub mod KeepsOnce
 pub mod Places
 pub mod Stories
+pub mod Kept
