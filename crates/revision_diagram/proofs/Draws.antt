@@ -1,6 +1,6 @@
 -- What each kind of step draws.
-use Rattle.std.proofs.Common.{◌≡◌, ℕ, ◌+◌, ◌<◌, ◌≤◌, Bool, true, false, cond, List, [], ◌∷◌, ◌++◌, length, drop, refl, sym, ap, subst, ◌∙◌, arith, Option, Some, None, inl, inr}
-use Rattle.std.specs.Prelude.{◌||◌, ◌==◌, IsTrue}
+use Rattle.std.proofs.Common.{◌≡◌, ℕ, ◌+◌, ◌<◌, Bool, true, false, cond, List, [], ◌∷◌, ◌++◌, length, drop, refl, sym, ap, subst, ◌∙◌, arith, Some, inl, inr}
+use Rattle.std.specs.Prelude.{◌==◌, IsTrue}
 use Rattle.std.proofs.lemmas.Bool.{or_left, ne_eqb, eq-eqb, cases_eq}
 use Rattle.cloud_base.specs.declared.update.Update.{Update}
 use Rattle.cloud_base.specs.declared.update.Query.{Query}
@@ -9,7 +9,6 @@ use Rattle.revision_diagram.specs.declared.step.Step.{Step}
 use Rattle.revision_diagram.specs.declared.step.Step.TheVariants.{Fork, Join, Do, Ask, Say, Mark}
 use Rattle.revision_diagram.specs.Diagram.{Diagram, diagram, after, put, with_place, with_past, acts_on, revisions, live, owner, past, path, fork, fork_length}
 use Rattle.revision_diagram.proofs.Steps.{diagram-step, diagram-places}
-use Rattle.revision_diagram.proofs.Range.{put-cases}
 
 -- a field of the longer diagram
 drawn : {A : Type 0} (field : Diagram → A) (steps : List Step) (s : Step) → field (diagram (steps ++ s ∷ [])) ≡ field (after (diagram steps) s)
@@ -152,9 +151,9 @@ kept_place past n i h = or_left (past i) (i == n) h
 
 grows_by : (r n : ℕ) (more : ℕ → Bool) (past : ℕ → ℕ → Bool) (x i : ℕ) → past x i ≡ true → (past r i ≡ true → more i ≡ true) → put r (with_place more n) past x i ≡ true
 grows_by r n more past x i h k = elim (cases_eq x r) [
-      inl same ↦ subst (λ (b : Bool). cond b (with_place more n) (past x) i ≡ true) (sym (eq-eqb x r same)) (kept_place more n i (k (subst (λ (z : ℕ). past z i ≡ true) same h)))
-    | inr other ↦ subst (λ (b : Bool). cond b (with_place more n) (past x) i ≡ true) (sym (ne_eqb x r other)) h
-    ]
+  | inl same ↦ subst (λ (b : Bool). cond b (with_place more n) (past x) i ≡ true) (sym (eq-eqb x r same)) (kept_place more n i (k (subst (λ (z : ℕ). past z i ≡ true) same h)))
+  | inr other ↦ subst (λ (b : Bool). cond b (with_place more n) (past x) i ≡ true) (sym (ne_eqb x r other)) h
+]
 
 grows : (d : Diagram) (s : Step) (x i : ℕ) → x < d.revisions → d.past x i ≡ true → (after d s).past x i ≡ true
 grows d (Fork r c) x i l h = subst (λ (b : Bool). cond b (with_place (d.past r) d.places) (put r (with_place (d.past r) d.places) d.past x) i ≡ true) (sym (ne_eqb x d.revisions (λ e. omega arith))) (grows_by r d.places (d.past r) d.past x i h (λ k. k))

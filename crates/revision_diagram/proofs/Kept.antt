@@ -1,17 +1,18 @@
 -- What a further step leaves as it was, and what holds of every list of steps.
-use Rattle.std.proofs.Common.{◌≡◌, ℕ, zero, suc, ◌+◌, ◌<◌, ◌≤◌, Bool, true, false, cond, List, [], ◌∷◌, ◌++◌, length, drop, take, refl, sym, ap, subst, ◌∙◌, arith, Option, Some, None, inl, inr}
-use Rattle.std.specs.Prelude.{IsTrue, ◌&&◌, not, ◌==◌, ◌↔◌, MatchOption}
+use Rattle.std.proofs.Common.{◌≡◌, ℕ, ◌+◌, ◌<◌, ◌≤◌, Bool, true, false, cond, List, [], ◌∷◌, ◌++◌, length, drop, take, refl, sym, ap, subst, ◌∙◌, arith, Some, None, inl, inr}
+use Rattle.std.specs.Prelude.{IsTrue, ◌&&◌, not, ◌≢◌, MatchOption}
 use Rattle.std.specs.List.{list_all, AllByRecursion}
-use Rattle.std.proofs.lemmas.Bool.{and_parts, and_from, ne_eqb, false≢true, cases_lt, cases_eq, cases_Bool}
+use Rattle.std.proofs.lemmas.Bool.{and_from, false≢true, cases_lt, cases_eq, cases_Bool}
 use Rattle.std.proofs.lemmas.List.{take-append-drop}
 use Rattle.revision_diagram.specs.declared.step.Step.{Step}
 use Rattle.revision_diagram.specs.declared.step.Step.TheVariants.{Fork, Join, Do, Ask, Say, Mark}
-use Rattle.revision_diagram.specs.Diagram.{Diagram, diagram, start, after, put, EachStep, revisions, live, owner, past, path, fork, fork_length}
+use Rattle.revision_diagram.specs.Diagram.{Diagram, diagram, after, revisions, live, owner, past, path, fork, fork_length}
 use Rattle.revision_diagram.specs.Once.{times_on, stands_on, is_do, joins_apart, StandsOnce}
 use Rattle.revision_diagram.specs.Meeting.{Tree, FlushLaw, flushes, client_at, Flushed}
-use Rattle.revision_diagram.proofs.Steps.{by_steps, diagram-step, diagram-places, EachStep-step, EachFrom-front, EachFrom-last}
+use Rattle.revision_diagram.proofs.Steps.{by_steps, diagram-step, diagram-places}
 use Rattle.revision_diagram.proofs.Range.{InRange, in_range, times_on-append}
-use Rattle.revision_diagram.proofs.Marks.{stands-times, times-stands, all_from}
+use Rattle.revision_diagram.proofs.Marks.{stands-times, all_from, all_at}
+use Rattle.revision_diagram.proofs.Logs.{paths_do}
 use Rattle.revision_diagram.proofs.KeepsOnce.{put-here, put-else}
 
 -- a revision that is there keeps its owner and its fork
@@ -24,7 +25,7 @@ keeps : (d : Diagram) (s : Step) (x : ℕ) → x < d.revisions → Keeps d (afte
 keeps d (Fork r c) x l = record {
   owner = put-else d.revisions x (Some c) d.owner (λ e. omega arith);
   fork = put-else d.revisions x d.places d.fork (λ e. omega arith);
-  fork_length = put-else d.revisions x (length (d.path r)) d.fork_length (λ e. omega arith)
+  fork_length = put-else d.revisions x (length (d.path r)) d.fork_length (λ e. omega arith);
 }
 keeps d (Join r s) x l = record { owner = refl; fork = refl; fork_length = refl }
 keeps d (Do r u) x l = record { owner = refl; fork = refl; fork_length = refl }
@@ -65,19 +66,19 @@ served_kept : (d e : Diagram) → e.revisions ≡ d.revisions → ((x : ℕ) →
 served_kept d e same o h = record {
   there = let t : 0 < d.revisions = h.there in omega arith;
   nobodys = o 0 ∙ h.nobodys;
-  owned = λ x l m n. h.owned x l (omega arith) (sym (o x) ∙ n)
+  owned = λ x l m n. h.owned x l (omega arith) (sym (o x) ∙ n);
 }
 
 served_more : (d : Diagram) (s : Step) → Served d → Served (after d s)
-served_more d (Fork r c) h = 
+served_more d (Fork r c) h =
     let t : 0 < d.revisions = h.there in
     record {
       there = omega arith;
       nobodys = put-else d.revisions 0 (Some c) d.owner (λ e. omega arith) ∙ h.nobodys;
       owned = λ x l m n. elim (cases_eq x d.revisions) [
-          inl new ↦ let e : Some c ≡ None = sym (put-here d.revisions x (Some c) d.owner new) ∙ n in cc
+        | inl new ↦ let e : Some c ≡ None = sym (put-here d.revisions x (Some c) d.owner new) ∙ n in cc
         | inr old ↦ h.owned x l (omega arith) (sym (put-else d.revisions x (Some c) d.owner old) ∙ n)
-        ]
+      ];
     }
 served_more d (Join r s) h = served_kept d (after d (Join r s)) refl (λ x. refl) h
 served_more d (Do r u) h = served_kept d (after d (Do r u)) refl (λ x. refl) h
@@ -104,9 +105,9 @@ past-there steps x i h =
 -- A path has no place twice, where it has each once that it has.
 pub at_most_once : (steps : List Step) (r i : ℕ) → StandsOnce steps r → times_on (path steps r) i ≤ 1
 at_most_once steps r i h = elim (cases_Bool (past steps r i && is_do steps i)) [
-      inl here ↦ let e : times_on (path steps r) i ≡ 1 = h i ∙ ap (λ (b : Bool). cond b 1 0) here in omega arith
-    | inr none ↦ let e : times_on (path steps r) i ≡ 0 = h i ∙ ap (λ (b : Bool). cond b 1 0) none in omega arith
-    ]
+  | inl here ↦ let e : times_on (path steps r) i ≡ 1 = h i ∙ ap (λ (b : Bool). cond b 1 0) here in omega arith
+  | inr none ↦ let e : times_on (path steps r) i ≡ 0 = h i ∙ ap (λ (b : Bool). cond b 1 0) none in omega arith
+]
 
 not_from : (b : Bool) → (b ≡ true → ⊥) → not b ≡ true
 not_from true h = absurd (h refl)
@@ -118,13 +119,20 @@ joins_apart-base steps r s h e =
     let base : List ℕ = take (fork_length steps s) (path steps s) in
     let branch : List ℕ = drop (fork_length steps s) (path steps s) in
     and_from (list_all (stands_on (path steps r)) base) (list_all (λ i. not (stands_on (path steps r) i)) branch)
-      (all_from (stands_on (path steps r)) base (λ i k. ap (λ (t : List ℕ). stands_on t i) e ∙ k))
-      (all_from (λ i. not (stands_on (path steps r) i)) branch (λ i k. not_from (stands_on (path steps r) i) (λ there.
-        let in_base : 0 < times_on (take (fork_length steps s) (path steps s)) i = stands-times base i (sym (ap (λ (t : List ℕ). stands_on t i) e) ∙ there) in
-        let in_branch : 0 < times_on (drop (fork_length steps s) (path steps s)) i = stands-times branch i k in
-        let both : times_on (take (fork_length steps s) (path steps s)) i + times_on (drop (fork_length steps s) (path steps s)) i ≡ times_on (path steps s) i = sym (times_on-append base branch i) ∙ ap (λ (t : List ℕ). times_on t i) (take-append-drop (fork_length steps s) (path steps s)) in
-        let most : times_on (path steps s) i ≤ 1 = at_most_once steps s i h in
-        omega arith)))
+    (all_from (stands_on (path steps r)) base (λ i k. ap (λ (t : List ℕ). stands_on t i) e ∙ k))
+    (all_from (λ i. not (stands_on (path steps r) i)) branch (λ i k. not_from (stands_on (path steps r) i) (λ there.
+    let in_base : 0 < times_on (take (fork_length steps s) (path steps s)) i = stands-times base i (sym (ap (λ (t : List ℕ). stands_on t i) e) ∙ there) in
+    let in_branch : 0 < times_on (drop (fork_length steps s) (path steps s)) i = stands-times branch i k in
+    let both : times_on (take (fork_length steps s) (path steps s)) i + times_on (drop (fork_length steps s) (path steps s)) i ≡ times_on (path steps s) i = sym (times_on-append base branch i) ∙ ap (λ (t : List ℕ). times_on t i) (take-append-drop (fork_length steps s) (path steps s)) in
+    let most : times_on (path steps s) i ≤ 1 = at_most_once steps s i h in
+    omega arith)))
 
 pub FlushLaw-none : (tree : Tree) (steps : List Step) → flushes steps ≡ [] → FlushLaw tree steps
 FlushLaw-none tree steps e = subst (λ (t : List ℕ). AllByRecursion (λ i. MatchOption (client_at steps i) (Unit {0}) (λ c. Flushed tree steps i c)) t) (sym e) tt
+
+-- each place on a path is one of a Do step
+pub path-there : (steps : List Step) (r i : ℕ) → IsTrue (stands_on (path steps r) i) → IsTrue (is_do steps i)
+path-there steps r i h = all_at (is_do steps) (path steps r) i (paths_do steps r) h
+
+pub owner-some : (steps : List Step) (x : ℕ) → 0 < x → x < revisions steps → owner steps x ≢ None
+owner-some steps x l m e = let h : Served (diagram steps) = served steps in h.owned x l m e

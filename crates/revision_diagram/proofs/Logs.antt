@@ -1,7 +1,7 @@
 -- Paths hold places of Do steps alone, so a log grows with its path.
-use Rattle.std.proofs.Common.{◌≡◌, ℕ, zero, suc, ◌+◌, ◌<◌, ◌≤◌, Bool, true, false, cond, List, [], ◌∷◌, ◌++◌, length, drop, take, refl, sym, ap, subst, ◌∙◌, arith, Option, Some, None, inl, inr, length-append}
-use Rattle.std.specs.Prelude.{◌&&◌, ◌==◌, IsTrue, slice_get}
-use Rattle.std.specs.List.{list_all, filter_map}
+use Rattle.std.proofs.Common.{◌≡◌, ℕ, zero, suc, ◌<◌, Bool, true, false, cond, List, [], ◌∷◌, ◌++◌, length, drop, take, refl, sym, ap, ◌∙◌, arith, Option, Some, None}
+use Rattle.std.specs.Prelude.{◌==◌, slice_get}
+use Rattle.std.specs.List.{list_all}
 use Rattle.std.proofs.lemmas.Bool.{and_parts, and_from, false≢true}
 use Rattle.std.proofs.lemmas.List.{take-append-drop}
 use Rattle.std.proofs.lemmas.List.Folds.{list_all-append}
@@ -11,10 +11,10 @@ use Rattle.cloud_base.specs.declared.update.Query.{Query}
 use Rattle.cloud_base.specs.declared.update.Answer.{Answer}
 use Rattle.revision_diagram.specs.declared.step.Step.{Step}
 use Rattle.revision_diagram.specs.declared.step.Step.TheVariants.{Fork, Join, Do, Ask, Say, Mark}
-use Rattle.revision_diagram.specs.Diagram.{Diagram, diagram, after, put, revisions, path, fork_length}
+use Rattle.revision_diagram.specs.Diagram.{put, revisions, path, fork_length}
 use Rattle.revision_diagram.specs.Right.{update_of, updates_at, log}
 use Rattle.revision_diagram.specs.Once.{does_on, is_some_revision, is_do}
-use Rattle.revision_diagram.proofs.Steps.{by_steps, diagram-step, diagram-places}
+use Rattle.revision_diagram.proofs.Steps.{by_steps}
 use Rattle.revision_diagram.proofs.Range.{put-cases}
 use Rattle.revision_diagram.proofs.Draws.{path-Fork, path-Join, path-Do, path-Ask, path-Say, path-Mark}
 
@@ -69,12 +69,12 @@ paths_do_more : (steps : List Step) (s : Step) → PathsDo steps → PathsDo (st
 paths_do_more steps (Fork r c) h x = rw (path-Fork steps r c x) (all_do_at steps (Fork r c) (revisions steps) x (path steps r) h (all_do-kept steps (Fork r c ∷ []) (path steps r) (h r)))
 paths_do_more steps (Join r s) h x = rw (path-Join steps r s x) (all_do_at steps (Join r s) r x (path steps r ++ drop (fork_length steps s) (path steps s)) h
     (all-append (is_do (steps ++ Join r s ∷ [])) (path steps r) (drop (fork_length steps s) (path steps s))
-      (all_do-kept steps (Join r s ∷ []) (path steps r) (h r))
-      (all-drop (is_do (steps ++ Join r s ∷ [])) (fork_length steps s) (path steps s) (all_do-kept steps (Join r s ∷ []) (path steps s) (h s)))))
+    (all_do-kept steps (Join r s ∷ []) (path steps r) (h r))
+    (all-drop (is_do (steps ++ Join r s ∷ [])) (fork_length steps s) (path steps s) (all_do-kept steps (Join r s ∷ []) (path steps s) (h s)))))
 paths_do_more steps (Do r u) h x = rw (path-Do steps r u x) (all_do_at steps (Do r u) r x (path steps r ++ length steps ∷ []) h
     (all-append (is_do (steps ++ Do r u ∷ [])) (path steps r) (length steps ∷ [])
-      (all_do-kept steps (Do r u ∷ []) (path steps r) (h r))
-      (and_from (is_do (steps ++ Do r u ∷ []) (length steps)) true (is_do-last steps r u) refl)))
+    (all_do-kept steps (Do r u ∷ []) (path steps r) (h r))
+    (and_from (is_do (steps ++ Do r u ∷ []) (length steps)) true (is_do-last steps r u) refl)))
 paths_do_more steps (Ask r q a) h x = rw (path-Ask steps r q a x) (all_do-kept steps (Ask r q a ∷ []) (path steps x) (h x))
 paths_do_more steps (Say r v) h x = rw (path-Say steps r v x) (all_do-kept steps (Say r v ∷ []) (path steps x) (h x))
 paths_do_more steps (Mark r flush) h x = rw (path-Mark steps r flush x) (all_do-kept steps (Mark r flush ∷ []) (path steps x) (h x))
@@ -129,9 +129,9 @@ pub log-Join : (steps : List Step) (r s x : ℕ) → log (steps ++ Join r s ∷ 
 log-Join steps r s x =
     let longer : List Step = steps ++ Join r s ∷ [] in
     let tail : updates_at longer (drop (fork_length steps s) (path steps s)) ≡ drop (fork_length steps s) (log steps s) =
-      updates_at-drop longer (fork_length steps s) (path steps s) (all_do-kept steps (Join r s ∷ []) (path steps s) (paths_do steps s)) ∙ ap (drop (fork_length steps s)) (log-kept steps (Join r s) s) in
+    updates_at-drop longer (fork_length steps s) (path steps s) (all_do-kept steps (Join r s ∷ []) (path steps s) (paths_do steps s)) ∙ ap (drop (fork_length steps s)) (log-kept steps (Join r s) s) in
     let whole : updates_at longer (path steps r ++ drop (fork_length steps s) (path steps s)) ≡ log steps r ++ drop (fork_length steps s) (log steps s) =
-      updates_at-append longer (path steps r) (drop (fork_length steps s) (path steps s)) ∙ ap (λ (t : List Update). t ++ updates_at longer (drop (fork_length steps s) (path steps s))) (log-kept steps (Join r s) r) ∙ ap (λ (t : List Update). log steps r ++ t) tail in
+    updates_at-append longer (path steps r) (drop (fork_length steps s) (path steps s)) ∙ ap (λ (t : List Update). t ++ updates_at longer (drop (fork_length steps s) (path steps s))) (log-kept steps (Join r s) r) ∙ ap (λ (t : List Update). log steps r ++ t) tail in
     logged steps (Join r s) x (put r (path steps r ++ drop (fork_length steps s) (path steps s)) (path steps) x) (path-Join steps r s x)
     ∙ put_log (updates_at longer) r x (path steps r ++ drop (fork_length steps s) (path steps s)) (path steps) (log steps r ++ drop (fork_length steps s) (log steps s)) (log steps) whole (log-kept steps (Join r s) x)
 
@@ -139,7 +139,7 @@ pub log-Do : (steps : List Step) (r : ℕ) (u : Update) (x : ℕ) → log (steps
 log-Do steps r u x =
     let longer : List Step = steps ++ Do r u ∷ [] in
     let whole : updates_at longer (path steps r ++ length steps ∷ []) ≡ log steps r ++ u ∷ [] =
-      updates_at-append longer (path steps r) (length steps ∷ []) ∙ ap (λ (t : List Update). t ++ updates_at longer (length steps ∷ [])) (log-kept steps (Do r u) r) ∙ rw (slice_get-last steps (Do r u)) refl in
+    updates_at-append longer (path steps r) (length steps ∷ []) ∙ ap (λ (t : List Update). t ++ updates_at longer (length steps ∷ [])) (log-kept steps (Do r u) r) ∙ rw (slice_get-last steps (Do r u)) refl in
     logged steps (Do r u) x (put r (path steps r ++ length steps ∷ []) (path steps) x) (path-Do steps r u x)
     ∙ put_log (updates_at longer) r x (path steps r ++ length steps ∷ []) (path steps) (log steps r ++ u ∷ []) (log steps) whole (log-kept steps (Do r u) x)
 

@@ -1,14 +1,14 @@
 -- Each place on a path after all that its own revision had seen.
-use Rattle.std.proofs.Common.{◌≡◌, ℕ, zero, suc, ◌+◌, ◌<◌, ◌≤◌, Bool, true, false, cond, List, [], ◌∷◌, ◌++◌, length, drop, take, refl, sym, ap, subst, ◌∙◌, arith, Option, Some, None, inl, inr, append_assoc, append-nil}
-use Rattle.std.specs.Prelude.{◌&&◌, ◌||◌, not, ◌==◌, ◌⊎◌, IsTrue, slice_get}
-use Rattle.std.specs.List.{list_all, list_any}
-use Rattle.std.proofs.lemmas.Bool.{and_parts, and_from, or_cases, or_left, or_right, false≢true, cases_lt}
+use Rattle.std.proofs.Common.{◌≡◌, ℕ, zero, suc, ◌<◌, true, List, [], ◌∷◌, ◌++◌, length, drop, take, refl, sym, ap, subst, ◌∙◌, arith, Option, inl, inr, append_assoc, append-nil}
+use Rattle.std.specs.Prelude.{◌==◌, slice_get}
+use Rattle.std.specs.List.{list_all}
+use Rattle.std.proofs.lemmas.Bool.{and_parts, and_from, or_cases, or_left, or_right, false≢true}
 use Rattle.std.proofs.lemmas.List.{take-append-drop, take-append-le}
 use Rattle.std.proofs.Math.Seq.{take-append_seam}
 use Rattle.std.proofs.lemmas.List.Folds.{list_any-append}
 use Rattle.cloud_base.specs.declared.update.Update.{Update}
 use Rattle.revision_diagram.specs.declared.step.Step.{Step}
-use Rattle.revision_diagram.specs.declared.step.Step.TheVariants.{Fork, Join, Do, Ask, Say, Mark}
+use Rattle.revision_diagram.specs.declared.step.Step.TheVariants.{Do}
 use Rattle.revision_diagram.specs.Diagram.{path}
 use Rattle.revision_diagram.specs.Once.{stands_on, does_on, is_do, path_of, seen_at, follows_seen}
 use Rattle.revision_diagram.proofs.Logs.{slice_get-front, slice_get-last}
@@ -42,7 +42,7 @@ follows-append steps before [] ys h k = subst (λ (b : List ℕ). follows_seen s
 follows-append steps before (i ∷ xs) ys h k =
     let both = and_parts (list_all (stands_on before) (seen_at steps i)) (follows_seen steps (before ++ i ∷ []) xs) h in
     and_from (list_all (stands_on before) (seen_at steps i)) (follows_seen steps (before ++ i ∷ []) (xs ++ ys)) both.0
-      (follows-append steps (before ++ i ∷ []) xs ys both.1 (subst (λ (b : List ℕ). follows_seen steps b ys ≡ true) (sym (append_assoc before (i ∷ []) xs)) k))
+    (follows-append steps (before ++ i ∷ []) xs ys both.1 (subst (λ (b : List ℕ). follows_seen steps b ys ≡ true) (sym (append_assoc before (i ∷ []) xs)) k))
 
 pub follows-rest : (steps : List Step) (before xs ys : List ℕ) → follows_seen steps before (xs ++ ys) ≡ true → follows_seen steps (before ++ xs) ys ≡ true
 follows-rest steps before [] ys h = subst (λ (b : List ℕ). follows_seen steps b ys ≡ true) (sym (append-nil before)) h
@@ -57,8 +57,8 @@ Within xs ys = (i : ℕ) → stands_on xs i ≡ true → stands_on ys i ≡ true
 within_more : (xs ys more : List ℕ) → Within xs ys → Within (xs ++ more) (ys ++ more)
 within_more xs ys more h i k =
     list_any-append (λ j. j == i) ys more ∙ elim (or_cases (stands_on xs i) (stands_on more i) (sym (list_any-append (λ j. j == i) xs more) ∙ k)) [
-      inl here ↦ or_left (stands_on ys i) (stands_on more i) (h i here)
-    | inr there ↦ or_right (stands_on ys i) (stands_on more i) there
+      | inl here ↦ or_left (stands_on ys i) (stands_on more i) (h i here)
+      | inr there ↦ or_right (stands_on ys i) (stands_on more i) there
     ]
 
 -- the more there is before it
@@ -67,11 +67,11 @@ follows-within steps xs ys [] w h = refl
 follows-within steps xs ys (i ∷ places) w h =
     let both = and_parts (list_all (stands_on xs) (seen_at steps i)) (follows_seen steps (xs ++ i ∷ []) places) h in
     and_from (list_all (stands_on ys) (seen_at steps i)) (follows_seen steps (ys ++ i ∷ []) places)
-      (all_from (stands_on ys) (seen_at steps i) (λ j k. w j (all_at (stands_on xs) (seen_at steps i) j both.0 k)))
-      (follows-within steps (xs ++ i ∷ []) (ys ++ i ∷ []) places (within_more xs ys (i ∷ []) w) both.1)
+    (all_from (stands_on ys) (seen_at steps i) (λ j k. w j (all_at (stands_on xs) (seen_at steps i) j both.0 k)))
+    (follows-within steps (xs ++ i ∷ []) (ys ++ i ∷ []) places (within_more xs ys (i ∷ []) w) both.1)
 
 pub follows-joined : (steps : List Step) (xs ys : List ℕ) (n : ℕ) → list_all (stands_on xs) (take n ys) ≡ true → follows_seen steps [] xs ≡ true → follows_seen steps [] ys ≡ true → follows_seen steps [] (xs ++ drop n ys) ≡ true
 follows-joined steps xs ys n had h k =
     follows-append steps [] xs (drop n ys) h
-      (follows-within steps (take n ys) xs (drop n ys) (λ i j. all_at (stands_on xs) (take n ys) i had j)
-        (follows-rest steps [] (take n ys) (drop n ys) (subst (λ (t : List ℕ). follows_seen steps [] t ≡ true) (sym (take-append-drop n ys)) k)))
+    (follows-within steps (take n ys) xs (drop n ys) (λ i j. all_at (stands_on xs) (take n ys) i had j)
+    (follows-rest steps [] (take n ys) (drop n ys) (subst (λ (t : List ℕ). follows_seen steps [] t ≡ true) (sym (take-append-drop n ys)) k)))

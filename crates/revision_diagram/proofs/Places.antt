@@ -1,7 +1,8 @@
 -- What holds at each step and of each prefix, said by places.
-use Rattle.std.proofs.Common.{◌≡◌, ℕ, zero, suc, ◌+◌, ◌<◌, ◌≤◌, Bool, true, false, cond, List, [], ◌∷◌, ◌++◌, length, drop, take, refl, sym, ap, subst, ◌∙◌, arith, Option, Some, None, inl, inr, append_assoc, append-nil}
+use Rattle.std.proofs.Common.{◌≡◌, ℕ, zero, suc, List, [], ◌∷◌, ◌++◌, take, refl, sym, subst, Some, append_assoc, append-nil}
 use Rattle.std.specs.Prelude.{◌↔◌, slice_get}
 use Rattle.revision_diagram.specs.declared.step.Step.{Step}
+use Rattle.revision_diagram.proofs.Steps.{EachFrom-front, EachFrom-last, EachStep-step, PrefixesFrom-front}
 use Rattle.revision_diagram.specs.Diagram.{EachFrom, EachStep, PrefixesFrom, EachPrefix, Diagram, diagram_from, diagram, after, start}
 
 EachFrom-at : (P : List Step → Step → Type 0) (front steps : List Step) → EachFrom P front steps → (i : ℕ) (s : Step) → slice_get steps i ≡ Some s → P (front ++ take i steps) s
@@ -50,3 +51,15 @@ EachFrom-append P front (s ∷ steps) rest h k = (h.0, EachFrom-append P (front 
 
 pub EachStep-append : (P : List Step → Step → Type 0) (steps rest : List Step) → EachStep P steps → EachFrom P steps rest → EachStep P (steps ++ rest)
 EachStep-append P steps rest h k = EachFrom-append P [] steps rest h k
+
+pub EachStep-more : (P : List Step → Step → Type 0) (steps : List Step) (s : Step) → EachStep P (steps ++ s ∷ []) ↔ (EachStep P steps × P steps s)
+EachStep-more P steps s = (λ h. (EachFrom-front P [] steps s h, EachFrom-last P [] steps s h), λ h. EachStep-step P steps s h.0 h.1)
+
+pub EachStep-by_place : (P : List Step → Step → Type 0) (steps : List Step) → EachStep P steps ↔ ((i : ℕ) (s : Step) → slice_get steps i ≡ Some s → P (take i steps) s)
+EachStep-by_place P steps = (λ h. EachStep-at P steps h, λ h. EachStep-from P steps h)
+
+pub EachPrefix-by_place : (P : List Step → Type 0) (steps : List Step) → EachPrefix P steps ↔ ((n : ℕ) → P (take n steps))
+EachPrefix-by_place P steps = (λ h. EachPrefix-at P steps h, λ h. EachPrefix-from P steps h)
+
+pub EachPrefix-front : (P : List Step → Type 0) (steps : List Step) (s : Step) → EachPrefix P (steps ++ s ∷ []) → EachPrefix P steps
+EachPrefix-front P steps s h = PrefixesFrom-front P [] steps s h

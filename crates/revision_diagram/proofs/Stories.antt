@@ -1,17 +1,14 @@
 -- What a further step adds to a client's story.
-use Rattle.std.proofs.Common.{◌≡◌, ℕ, zero, suc, ◌+◌, ◌<◌, ◌≤◌, Bool, true, false, cond, List, [], ◌∷◌, ◌++◌, length, drop, take, refl, sym, ap, subst, ◌∙◌, arith, Option, Some, None, inl, inr, append_assoc, append-nil, length-append}
-use Rattle.std.specs.Prelude.{IsTrue, ◌&&◌, slice_get}
-use Rattle.std.specs.List.{list_all, filter_map, last_or, cons_option}
-use Rattle.std.proofs.lemmas.Bool.{and_parts, and_from, lt-ltb}
+use Rattle.std.proofs.Common.{◌≡◌, ℕ, ◌+◌, ◌<◌, ◌≤◌, Bool, true, false, cond, List, [], ◌∷◌, ◌++◌, length, refl, sym, ap, subst, ◌∙◌, arith, Option, Some, None, append-nil, length-append}
+use Rattle.std.specs.Prelude.{slice_get}
+use Rattle.std.specs.List.{filter_map, last_or, cons_option}
 use Rattle.std.proofs.lemmas.List.Elements.{filter_map-append}
-use Rattle.cloud_base.specs.declared.update.Answer.{Answer}
 use Rattle.cloud_base.specs.declared.update.Event.{Event}
 use Rattle.revision_diagram.specs.declared.step.Step.{Step}
-use Rattle.revision_diagram.specs.declared.step.Step.TheVariants.{Fork, Join, Do, Ask, Say, Mark}
-use Rattle.revision_diagram.specs.Diagram.{EachFrom, EachStep, places_from, places_of, acts_on, is_of, owner, past}
+use Rattle.revision_diagram.specs.Diagram.{places_of}
 use Rattle.revision_diagram.specs.Story.{is_told, story, event_of, events, answer_of, answers_got}
 use Rattle.revision_diagram.specs.Meeting.{is_flush, flushes}
-use Rattle.revision_diagram.proofs.Steps.{by_steps, places_of-step, places_from-step}
+use Rattle.revision_diagram.proofs.Steps.{by_steps, places_of-step}
 use Rattle.revision_diagram.proofs.Logs.{slice_get-front, slice_get-last}
 
 pub story-step : (steps : List Step) (s : Step) (c : ℕ) → story (steps ++ s ∷ []) c ≡ story steps c ++ cond (is_told c steps s) (length steps ∷ []) []
@@ -40,10 +37,10 @@ last_under n false = tt
 pub places_of-under : (test : List Step → Step → Bool) (steps : List Step) → all_under (length steps) (places_of test steps)
 places_of-under test steps = by_steps (λ (t : List Step). all_under (length t) (places_of test t)) tt
     (λ front s h. subst (λ (n : ℕ). all_under n (places_of test (front ++ s ∷ []))) (let e : length front + 1 ≡ length (front ++ s ∷ []) = omega (arith, length-append front (s ∷ [])) in e)
-      (subst (all_under (length front + 1)) (sym (places_of-step test front s))
-        (all_under-append (length front + 1) (places_of test front) (cond (test front s) (length front ∷ []) [])
-          (all_under-more (length front) (length front + 1) (places_of test front) (omega arith) h)
-          (last_under (length front) (test front s)))))
+    (subst (all_under (length front + 1)) (sym (places_of-step test front s))
+    (all_under-append (length front + 1) (places_of test front) (cond (test front s) (length front ∷ []) [])
+    (all_under-more (length front) (length front + 1) (places_of test front) (omega arith) h)
+    (last_under (length front) (test front s)))))
     steps
 
 events_kept : (steps ys : List Step) (places : List ℕ) → all_under (length steps) places → filter_map (λ i. event_of (slice_get (steps ++ ys) i)) places ≡ filter_map (λ i. event_of (slice_get steps i)) places
