@@ -1,0 +1,7 @@
+// The text of a report.
+#![tactic(auto)]
+
+
+
+mod value;
+
