@@ -23,7 +23,6 @@ pub quoted_escapes : quoted (codes "a\"b\\c") ≡ codes "\"a\\\"b\\\\c\""
 unfolding digits
 quoted_escapes = refl
 
-
 pub id_has_client_first : id_text (record { client = 2; serial = 10 }) ≡ codes "@2.10"
 unfolding digits
 id_has_client_first = refl
@@ -56,11 +55,11 @@ answer_of_nothing = refl
 abbrev shop : Schema
 shop = record {
   properties =
-    record { name = codes "g"; owner = Owner.Global; cell = CellType.Int; keys = [] }
-    ∷ record { name = codes "quantity"; owner = Owner.Array (codes "Grocery"); cell = CellType.Int; keys = KeyType.Text ∷ [] }
-    ∷ record { name = codes "count"; owner = Owner.Entity 0; cell = CellType.Int; keys = KeyType.Id 0 ∷ [] }
-    ∷ [];
-  entities = record { name = codes "Order"; keys = [] } ∷ []
+      record { name = codes "g"; owner = Owner.Global; cell = CellType.Int; keys = [] }
+      ∷ record { name = codes "quantity"; owner = Owner.Array (codes "Grocery"); cell = CellType.Int; keys = KeyType.Text ∷ [] }
+      ∷ record { name = codes "count"; owner = Owner.Entity 0; cell = CellType.Int; keys = KeyType.Id 0 ∷ [] }
+      ∷ [];
+  entities = record { name = codes "Order"; keys = [] } ∷ [];
 }
 
 pub cell_of_global : cell_text shop 0 [] ≡ codes "g"
@@ -116,6 +115,6 @@ trap_line = refl
 
 -- each fork takes the next number, and a join prints first what it joins into
 pub short_report : report_text shop clients (Step.Fork 0 0 ∷ Step.Fork 0 1 ∷ Step.Do 2 (Update.Cell 0 [] (CellChange.SetInt (pos 5))) ∷ Step.Fork 2 1 ∷ Step.Join 0 2 ∷ Step.Say 3 (Answer.Truth true) ∷ []) (End.Done ∷ End.Spent ∷ [])
-  ≡ codes "fork 0 1 ann\nfork 0 2 bob\ndo 2 g.set(5)\nfork 2 3 bob\njoin 0 2\nsay 3 true\nend ann Done\nend bob Spent\n"
+    ≡ codes "fork 0 1 ann\nfork 0 2 bob\ndo 2 g.set(5)\nfork 2 3 bob\njoin 0 2\nsay 3 true\nend ann Done\nend bob Spent\n"
 unfolding digits
 short_report = refl
