@@ -1,5 +1,5 @@
 -- Values: texts, names and ids.
-use Rattle.std.specs.Prelude.{◌≡◌, ◌≢◌, ℕ, ◌≤◌, ◌<◌, List, [], ◌∷◌, length, All, Bool, true, false, ◌&&◌, ◌||◌, nat_le, ◌==◌, IsTrue}
+use Rattle.std.specs.Prelude.{ℕ, ◌≤◌, ◌<◌, List, [], ◌∷◌, length, All, Bool, true, false, ◌&&◌, ◌||◌, nat_le, ◌==◌, IsTrue}
 
 -- a printable byte
 abbrev pub IsPrintable : ℕ → Type 0

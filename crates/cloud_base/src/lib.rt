@@ -3,6 +3,7 @@
 
 mod batch;
 mod key;
+mod laws;
 mod memory;
 mod name;
 mod schedule;
@@ -13,6 +14,7 @@ mod update;
 
 pub use batch::{Batch, BatchList, End, Stretch, Tail};
 pub use key::{Key, Keys, MOST_KEYS, Uid};
+pub use laws::derived_orders;
 pub use memory::Memory;
 pub use name::Name;
 pub use schedule::{Fate, Schedule, ScheduleItem};
@@ -20,5 +22,5 @@ pub use schema::{
     CellType, Entity, EntityList, KeyType, KeyTypeList, Owner, Property, PropertyList, Schema,
 };
 pub use sequence::Sequence;
-pub use text::{MOST_BYTES, Text};
+pub use text::{MOST_BYTES, Text, TextFault};
 pub use update::{Answer, CellChange, Event, EventList, IdList, Query, TupleList, Update};

@@ -1,9 +1,11 @@
 // Texts of at most 128 printable bytes.
-ghost use Rattle.std.specs.Prelude.{◌≡◌, []};
-ghost use Rattle.cloud_base.specs.Values.{IsText};
+ghost use Rattle.std.specs.Prelude.{◌≡◌, [], IsTrue, ◌↔◌, MatchResult};
+ghost use Rattle.cloud_base.specs.Values.{IsText, IsPrintable};
+ghost use Rattle.cloud_base.specs.Texts.{HasFault, cat_text};
 
 use arrayvec::ArrayVec;
 use std::marker::Model;
+use thiserror::Error;
 
 /// The most bytes of a text.
 pub const MOST_BYTES: usize = 128;
@@ -31,7 +33,40 @@ impl Model for Text {
     ghost inverse = { λ bytes. record { bytes = record { items = bytes } } };
 }
 
+/// Why bytes are no text.
+#[derive(Debug, Drop, Error)]
+pub enum TextFault {
+    #[error("{len} bytes are too many for a text")]
+    TooLong { len: usize },
+    #[error("byte {at} is not printable")]
+    BadByte { at: usize },
+}
+
+fn is_printable(byte: u8) -> bool
+    ensures { IsTrue result ↔ IsPrintable byte }
+{
+    (0x20..=0x7E).contains(&byte)
+}
+
 impl Text {
+    /// The text of these bytes. It is `TooLong` exactly where they are more than `MOST_BYTES`, and else
+    /// `BadByte` at the first byte outside 0x20 to 0x7E. It takes no memory.
+    pub fn new(bytes: &[u8]) -> Result<Text, TextFault>
+        ensures { MatchResult result (λ text. (text ≡ bytes.now) × IsText bytes.now) (HasFault bytes.now) }
+    {
+        if bytes.len() > MOST_BYTES {
+            return Err(TextFault::TooLong { len: bytes.len() });
+        }
+        let mut text = ArrayVec::new();
+        for (at, byte) in bytes.iter().enumerate() {
+            if !is_printable(*byte) {
+                return Err(TextFault::BadByte { at });
+            }
+            text.push(*byte);
+        }
+        Ok(Text { bytes: text })
+    }
+
     pub fn empty() -> Text
         ensures { result ≡ [] }
     {
@@ -54,6 +89,19 @@ impl Text {
         let mut bytes = ArrayVec::new();
         for byte in self.bytes.as_slice() {
             bytes.push(*byte);
+        }
+        Text { bytes }
+    }
+
+    /// The first `MOST_BYTES` bytes of both in order. It takes no memory.
+    pub fn cat(&self, other: &Text) -> Text
+        ensures { result ≡ cat_text self.now other.now }
+    {
+        let Text { mut bytes } = self.copied();
+        for byte in other.bytes.as_slice() {
+            if bytes.len() < MOST_BYTES {
+                bytes.push(*byte);
+            }
         }
         Text { bytes }
     }

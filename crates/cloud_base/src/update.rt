@@ -1,9 +1,11 @@
 // Updates, queries, answers and events.
-ghost use Rattle.std.specs.Prelude.{◌≡◌};
+ghost use Rattle.std.specs.Prelude.{◌≡◌, IfOk};
 
 use crate::key::{Keys, Uid};
+use crate::memory::Memory;
 use crate::sequence::Sequence;
 use crate::text::Text;
+use std::alloc::Global;
 
 /// A change of one cell.
 #[derive(Drop, PartialEq, Eq)]
@@ -92,6 +94,38 @@ pub enum Answer {
     Tuples(TupleList),
 }
 
+fn copy_ids(alloc: Global, ids: &IdList) -> Result<IdList, Memory>
+    ensures { IfOk result (λ copy. copy ≡ ids.now) }
+{
+    Ok(Sequence::from_vec(Vec::from_slice(alloc, ids.as_slice())?))
+}
+
+fn copy_tuples(alloc: Global, tuples: &TupleList) -> Result<TupleList, Memory>
+    ensures { IfOk result (λ copy. copy ≡ tuples.now) }
+{
+    let mut copy = Sequence::new(alloc);
+    for keys in tuples.as_slice() {
+        copy.push(keys.copied())?;
+    }
+    Ok(copy)
+}
+
+impl Answer {
+    /// The same answer.
+    pub fn copy(&self, alloc: Global) -> Result<Answer, Memory>
+        ensures { IfOk result (λ answer. answer ≡ self.now) }
+    {
+        Ok(match self {
+            Answer::Int(number) => Answer::Int(*number),
+            Answer::Text(text) => Answer::Text(text.copied()),
+            Answer::Truth(truth) => Answer::Truth(*truth),
+            Answer::Id(id) => Answer::Id(*id),
+            Answer::Ids(ids) => Answer::Ids(copy_ids(alloc, ids)?),
+            Answer::Tuples(tuples) => Answer::Tuples(copy_tuples(alloc, tuples)?),
+        })
+    }
+}
+
 /// What a client does. `Yield` and `Flush` are marks.
 #[derive(Drop)]
 pub enum Event {
@@ -100,6 +134,21 @@ pub enum Event {
     Say(Answer),
     Yield,
     Flush,
+}
+
+impl Event {
+    /// The same event.
+    pub fn copy(&self, alloc: Global) -> Result<Event, Memory>
+        ensures { IfOk result (λ event. event ≡ self.now) }
+    {
+        Ok(match self {
+            Event::Do(update) => Event::Do(update.copied()),
+            Event::Ask(query, answer) => Event::Ask(query.copied(), answer.copy(alloc)?),
+            Event::Say(answer) => Event::Say(answer.copy(alloc)?),
+            Event::Yield => Event::Yield,
+            Event::Flush => Event::Flush,
+        })
+    }
 }
 
 pub type EventList = Sequence<Event>;

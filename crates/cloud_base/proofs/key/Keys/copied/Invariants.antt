@@ -1,4 +1,4 @@
-use Rattle.std.proofs.Common.{◌≡◌, take, length}
+use Rattle.std.proofs.Common.{◌≡◌, take}
 use Rattle.cloud_base.proofs.key.Keys.copied.Given as goal
 
 abbrev pub invariant-loop-key : goal.invariant-loop-key

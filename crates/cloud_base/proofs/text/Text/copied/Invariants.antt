@@ -1,4 +1,4 @@
-use Rattle.std.proofs.Common.{◌≡◌, take, length}
+use Rattle.std.proofs.Common.{◌≡◌, take}
 use Rattle.cloud_base.proofs.text.Text.copied.Given as goal
 
 abbrev pub invariant-loop-byte : goal.invariant-loop-byte

@@ -1,0 +1,19 @@
+-- Why bytes are no text, and two texts put together.
+use Rattle.std.specs.Prelude.{◌≡◌, ℕ, ◌≤◌, ◌<◌, List, ◌++◌, length, take, replicate, refl, All, slice_index}
+use Rattle.cloud_base.specs.Values.{IsPrintable}
+use Rattle.cloud_base.specs.declared.text.TextFault.{TextFault}
+use Rattle.cloud_base.specs.declared.text.TextFault.TheVariants.{TooLong, BadByte}
+
+-- the bytes are too many, or else the byte at a place is the first that isn't printable
+abbrev pub HasFault : List ℕ → TextFault → Type 0
+HasFault bytes (TooLong len) = (128 < length bytes) × (len ≡ length bytes)
+HasFault bytes (BadByte at) = (length bytes ≤ 128) × (at < length bytes) × (¬ IsPrintable (slice_index bytes at)) × All IsPrintable (take at bytes)
+
+-- the first 128 bytes of two texts in order
+unfoldable pub cat_text : List ℕ → List ℕ → List ℕ
+cat_text first second = take 128 (first ++ second)
+
+-- a text of 100 letters put to itself
+pub example_cut : cat_text (replicate 100 120) (replicate 100 120) ≡ replicate 128 120
+unfolding cat_text
+example_cut = refl
