@@ -1,13 +1,11 @@
 -- Worked examples of the definitions.
-use Rattle.std.proofs.Common.{◌≡◌, refl, ℕ, List, [], ◌∷◌, ◌++◌, true, false, pos, negsuc, codes}
+use Rattle.std.proofs.Common.{◌≡◌, refl, ℕ, List, [], ◌∷◌, true, false, pos, negsuc, codes}
 use Rattle.std.specs.Fmt.{digits}
 use Rattle.cloud_base.specs.declared.batch.End.{End}
 use Rattle.cloud_base.specs.declared.key.Key.{Key}
 use Rattle.cloud_base.specs.declared.schema.CellType.{CellType}
-use Rattle.cloud_base.specs.declared.schema.Entity.{Entity}
 use Rattle.cloud_base.specs.declared.schema.KeyType.{KeyType}
 use Rattle.cloud_base.specs.declared.schema.Owner.{Owner}
-use Rattle.cloud_base.specs.declared.schema.Property.{Property}
 use Rattle.cloud_base.specs.declared.schema.Schema.{Schema}
 use Rattle.cloud_base.specs.declared.update.Answer.{Answer}
 use Rattle.cloud_base.specs.declared.update.CellChange.{CellChange}

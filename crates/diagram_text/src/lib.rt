@@ -7,3 +7,6 @@ mod text;
 mod value;
 
 pub use text::{answer_text, end_text, query_text, report, step_text, update_text};
+
+#[cfg(test)]
+mod tests;
