@@ -1,6 +1,6 @@
 -- Small states of a table that meet the rule of a chronicle, and some that don't.
 use Rattle.std.proofs.Common.{◌≡◌, ℕ, zero, suc, true, false, List, [], ◌∷◌, length, sym, refl, ap, ◌∙◌, subst, arith}
-use mathlib.Core.Option.{some, some-injective, some-ne-none}
+use mathlib.Core.Option.{some-injective, some-ne-none}
 use mathlib.Core.List.{IsPrefix}
 use Rattle.front_table.specs.declared.view.View.{View}
 use Rattle.front_table.specs.Chronicle.{Lives, Fits, IsKept, view, spent}

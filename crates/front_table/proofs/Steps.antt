@@ -4,11 +4,11 @@ use Rattle.std.proofs.lemmas.Bool.Decides.{nat_tests}
 use mathlib.Core.Option.{some, some-injective, some-ne-none}
 use mathlib.Core.List.{IsPrefix}
 use lib.ListN.{get_elem?}
-use Rattle.atomic_table.specs.Table.{State, Act, keeps, Allows, Splits, Joins, stepped, opening}
+use Rattle.atomic_table.specs.Table.{keeps, Allows, Splits, Joins}
 use Rattle.atomic_table.proofs.Lists.{at_set, at_snoc, at_longer, set_else, set_again}
 use Rattle.front_table.specs.declared.view.View.{View}
 use Rattle.front_table.specs.Grown.{longer}
-use Rattle.front_table.specs.Chronicle.{Lives, Fits, IsKept, Tells, view, newcomer, appended, front_of, list_of, both_of, spent}
+use Rattle.front_table.specs.Chronicle.{Lives, Fits, IsKept, Tells, view, newcomer, appended, front_of, both_of, spent}
 
 same_words : (words : List ℕ) (n : ℕ) → words ≡ n ∷ [] → set words 0 (slice_index words 0) ≡ words
 same_words words n e = subst (λ (ws : List ℕ). set ws 0 (slice_index ws 0) ≡ ws) (sym e) refl
@@ -182,13 +182,13 @@ module _ {E : Type 0} where
       each = λ k u stays. ⊎_elim
           (λ t. subst (λ (x : View E). Fits id both.list k x) t.1 (record { writer = λ _. (t.0, refl); front = begins_itself both.list; before = before; joined = joined }))
           (λ t.
-              let f = h.each k u t.2 in
-              record {
-                writer = λ w. ⊎_elim (λ e. absurd (t.0 ((f.writer w).0 ∙ e))) (λ e. absurd (t.1 ((f.writer w).0 ∙ e))) was;
-                front = subst (λ (l : List E). IsPrefix u.list l) (sym list) f.front;
-                before = f.before;
-                joined = f.joined;
-              })
+          let f = h.each k u t.2 in
+          record {
+            writer = λ w. ⊎_elim (λ e. absurd (t.0 ((f.writer w).0 ∙ e))) (λ e. absurd (t.1 ((f.writer w).0 ∙ e))) was;
+            front = subst (λ (l : List E). IsPrefix u.list l) (sym list) f.front;
+            before = f.before;
+            joined = f.joined;
+          })
           (which k u stays);
     }
 

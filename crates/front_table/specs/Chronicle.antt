@@ -3,6 +3,8 @@ use Rattle.std.specs.Prelude.{◌≡◌, ℕ, ◌^◌, ◌<◌, Bool, true, fals
 use mathlib.Core.List.{IsPrefix}
 use mathlib.Core.Option.{some}
 use lib.ListN.{get_elem?}
+use Rattle.atomic_table.specs.Table.{Me}
+use Rattle.atomic_table.specs.Seated.{TableId}
 use Rattle.front_table.specs.declared.view.View.{View}
 use Rattle.front_table.specs.Grown.{longer}
 
@@ -34,6 +36,11 @@ module _ {E : Type 0} where
     pub writer : v.is_writer ≡ true → found ≡ length v.list
     pub before : IsPrefix v.before v.list
     pub joined : IsPrefix v.joined v.list
+
+  -- between calls a token's seat is one of its table, which has one word; it holds no slot, and its view lives and is a writer's or not
+  abbrev pub IsSeated : Bool → TableId → TableId → Me (Unit {0}) (View E) → Type 0
+  IsSeated is_writer table seat me =
+      (table.words ≡ 1) × (seat ≡ table) × (me.1 ≡ []) × (me.0.is_writer ≡ is_writer) × (me.0.is_spent ≡ false)
 
   -- a live view
   abbrev pub view : Bool → List E → List E → List E → View E

@@ -23,9 +23,10 @@ pub struct Writer<E> {
 }
 
 impl<E> Model for Writer<E> {
-    ghost use Rattle.std.specs.Prelude.{◌≡◌, [], true, false};
+    ghost use Rattle.std.specs.Prelude.{true};
     ghost use Rattle.std.specs.Arc.{arc_value};
     ghost use Rattle.front_table.specs.Grown.{Grown, grown_coded};
+    ghost use Rattle.front_table.specs.Chronicle.{IsSeated};
 
     ghost Value = { Grown E };
 
@@ -33,7 +34,7 @@ impl<E> Model for Writer<E> {
 
     ghost view = { λ w. record { table = w.seat.table_id; list = w.seat.me.0.list } };
 
-    ghost invariant = { λ w. ((arc_value w.board).shared.table_id.words ≡ 1) × (w.seat.table_id ≡ (arc_value w.board).shared.table_id) × (w.seat.me.1 ≡ []) × (w.seat.me.0.is_writer ≡ true) × (w.seat.me.0.is_spent ≡ false) };
+    ghost invariant = { λ w. IsSeated true (arc_value w.board).shared.table_id w.seat.table_id w.seat.me };
 }
 
 /// A beginning of a chronicle. Contracts see which chronicle it is of and the list. Whoever holds
@@ -46,9 +47,10 @@ pub struct Front<E> {
 }
 
 impl<E> Model for Front<E> {
-    ghost use Rattle.std.specs.Prelude.{◌≡◌, [], length, false};
+    ghost use Rattle.std.specs.Prelude.{◌≡◌, length, false};
     ghost use Rattle.std.specs.Arc.{arc_value};
     ghost use Rattle.front_table.specs.Grown.{Grown, grown_coded};
+    ghost use Rattle.front_table.specs.Chronicle.{IsSeated};
 
     ghost Value = { Grown E };
 
@@ -56,7 +58,7 @@ impl<E> Model for Front<E> {
 
     ghost view = { λ f. record { table = f.seat.table_id; list = f.seat.me.0.list } };
 
-    ghost invariant = { λ f. ((arc_value f.board).shared.table_id.words ≡ 1) × (f.seat.table_id ≡ (arc_value f.board).shared.table_id) × (f.seat.me.1 ≡ []) × (f.seat.me.0.is_writer ≡ false) × (f.seat.me.0.is_spent ≡ false) × (f.count ≡ length f.seat.me.0.list) };
+    ghost invariant = { λ f. IsSeated false (arc_value f.board).shared.table_id f.seat.table_id f.seat.me × (f.count ≡ length f.seat.me.0.list) };
 }
 
 impl<E> Writer<E> {
@@ -69,6 +71,7 @@ impl<E> Writer<E> {
         Ok(Writer { board, seat })
     }
 
+    // A step has no parameter of its own, so N names the entry to it.
     fn append_named<N: Named<E>>(&mut self, entry: &E)
         requires one { N.entries ≡ entry.now ∷ [] }
         requires room { length self.old.list + 1 < 2 ^ 64 }
@@ -182,26 +185,33 @@ mod tests {
         Ok(())
     }
 
+    fn append_twice<E>(mut writer: Writer<E>, entry: &E) -> Writer<E>
+        requires room { length writer.list + 2 < 2 ^ 64 }
+        ensures list { result.list ≡ writer.list ++ entry.now ∷ entry.now ∷ [] }
+        ensures same { result.table ≡ writer.table }
+    {
+        writer.append(entry);
+        writer.append(entry);
+        writer
+    }
+
     // One thread appends, and the other meets two fronts.
-    fn apart<R: Threads + Sync>(
+    fn apart<R: Threads + Sync, E: Sync>(
         rt: &R,
-        mut writer: Writer<u32>,
-        mut one: Front<u32>,
-        two: Front<u32>,
-    ) -> (Writer<u32>, Front<u32>)
+        writer: Writer<E>,
+        entry: &E,
+        mut one: Front<E>,
+        two: Front<E>,
+    ) -> (Writer<E>, Front<E>)
         requires room { length writer.list + 2 < 2 ^ 64 }
         requires chronicle { (one.table ≡ writer.table) × (two.table ≡ writer.table) }
-        ensures list { result.0.list ≡ writer.list ++ 7 ∷ 8 ∷ [] }
+        ensures list { result.0.list ≡ writer.list ++ entry.now ∷ entry.now ∷ [] }
         ensures front { result.1.list ≡ longer one.list two.list }
         ensures chronicle { (result.0.table ≡ writer.table) × (result.1.table ≡ writer.table) }
     {
         thread::join(
             rt,
-            move || {
-                writer.append(&7);
-                writer.append(&8);
-                writer
-            },
+            move || append_twice(writer, entry),
             move || {
                 one.meet(two);
                 one
@@ -216,7 +226,7 @@ mod tests {
         let one = writer.front()?;
         writer.append(&6);
         let two = writer.front()?;
-        let (mut writer, mut front) = apart(&rt, writer, one, two);
+        let (mut writer, mut front) = apart(&rt, writer, &7, one, two);
         assert_eq!(rt; front.len(), 2);
         front.meet(writer.front()?);
         assert_eq!(rt; front.len(), 4);
