@@ -13,15 +13,15 @@ module _ {E : Type 0} where
   abbrev pub Lives : List (View E) → ℕ → View E → Type 0
   Lives views k v = (get_elem? views k ≡ some v) × (v.is_spent ≡ false)
 
-  -- a live view, where the writer has the seat and the list given: it is the writer's at that seat alone, and has that list there;
-  -- its list is a prefix of the writer's, and its old lists are prefixes of its own
+  -- What the rule says of a live view at the seat k, where the writer has the seat and the list given: it is the writer's at that seat alone,
+  -- and has that list there. Its list is a prefix of the writer's, and each of its old lists is a prefix of its own
   pub record Fits (seat : ℕ) (list : List E) (k : ℕ) (v : View E) : Type 0 where
     pub writer : v.is_writer ≡ true → (k ≡ seat) × (v.list ≡ list)
     pub front : IsPrefix v.list list
     pub before : IsPrefix v.before v.list
     pub joined : IsPrefix v.joined v.list
 
-  -- The rule: exactly one live view is the writer's. Word 0 is the length of its list, and each live view fits it
+  -- The rule, which holds between any two steps: exactly one live view is the writer's, word 0 is the length of its list, and each live view fits it
   pub record IsKept (words : List ℕ) (views : List (View E)) : Type 0 where
     pub seat : ℕ
     pub writer : View E
@@ -37,7 +37,7 @@ module _ {E : Type 0} where
     pub before : IsPrefix v.before v.list
     pub joined : IsPrefix v.joined v.list
 
-  -- between calls a token's seat is one of its table, which has one word; it holds no slot, and its view lives and is a writer's or not
+  -- between calls: the table has one word, a token's seat is one of it and holds no slot, and its view is live, and the writer's or not
   abbrev pub IsSeated : Bool → TableId → TableId → Me (Unit {0}) (View E) → Type 0
   IsSeated is_writer table seat me =
       (table.words ≡ 1) × (seat ≡ table) × (me.1 ≡ []) × (me.0.is_writer ≡ is_writer) × (me.0.is_spent ≡ false)

@@ -34,7 +34,8 @@ impl<E> Model for Writer<E> {
 
     ghost view = { λ w. record { table = w.seat.table_id; list = w.seat.me.0.list } };
 
-    ghost invariant = { λ w. IsSeated true (arc_value w.board).shared.table_id w.seat.table_id w.seat.me };
+    ghost invariant = { λ w.
+        IsSeated true (arc_value w.board).shared.table_id w.seat.table_id w.seat.me };
 }
 
 /// A beginning of a chronicle. Contracts see which chronicle it is of and the list. Whoever holds
@@ -58,7 +59,9 @@ impl<E> Model for Front<E> {
 
     ghost view = { λ f. record { table = f.seat.table_id; list = f.seat.me.0.list } };
 
-    ghost invariant = { λ f. IsSeated false (arc_value f.board).shared.table_id f.seat.table_id f.seat.me × (f.count ≡ length f.seat.me.0.list) };
+    ghost invariant = { λ f.
+        IsSeated false (arc_value f.board).shared.table_id f.seat.table_id f.seat.me
+        × (f.count ≡ length f.seat.me.0.list) };
 }
 
 impl<E> Writer<E> {
