@@ -2,5 +2,4 @@ pub mod Fronts
 pub mod Lists
 pub mod Places
 pub mod Sameness
-pub mod Sound
 pub mod Splits

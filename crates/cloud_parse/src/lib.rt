@@ -1,7 +1,7 @@
 // A source text, its tokens and its tree.
 #![tactic(auto)]
 
-mod read;
+pub mod read;
 mod terminal;
 mod token;
 mod tree;

@@ -7,7 +7,7 @@ ghost use Rattle.cloud_parse.specs.Reading.{behind, name_at, number_at, amount_a
 
 use crate::terminal::Terminal;
 use crate::token::Token;
-use crate::tree::{Act, Amount, MOST_GLOBALS, Operation, Tree};
+use crate::tree::{Act, Amount, MOST_GLOBALS, Operation};
 use cloud_base::{Memory, Name, Sequence};
 use std::alloc::Global;
 
@@ -134,7 +134,7 @@ fn act_at<'a>(globals: &[Name], tokens: &'a [Token]) -> Option<(Act, &'a [Token]
 
 // The acts up to the closing brace.
 #[tactic(auto, unfolding(crate::specs::Reading::body_at))]
-fn body_at<'a>(
+pub fn body_at<'a>(
     alloc: Global,
     globals: &[Name],
     tokens: &'a [Token],
@@ -206,7 +206,7 @@ fn schema_opening(tokens: &[Token]) -> Option<&[Token]>
 }
 
 #[tactic(auto, unfolding(crate::specs::Reading::client_opening))]
-fn client_opening(tokens: &[Token]) -> Option<(&Name, &[Token])>
+pub fn client_opening(tokens: &[Token]) -> Option<(&Name, &[Token])>
     ensures { option_map (λ found. (found.0.now, found.1.now)) result ≡ client_opening tokens.now }
 {
     let rest = behind(tokens, Terminal::Client)?;
@@ -216,7 +216,7 @@ fn client_opening(tokens: &[Token]) -> Option<(&Name, &[Token])>
 }
 
 #[tactic(auto, unfolding(crate::specs::Reading::schema_at))]
-fn schema_at(
+pub fn schema_at(
     alloc: Global,
     tokens: &[Token],
 ) -> Result<Option<(Sequence<Name>, &[Token])>, Memory>
@@ -227,25 +227,4 @@ fn schema_at(
         Some(rest) => globals_at(alloc, rest),
         None => Ok(None),
     }
-}
-
-/// The tree of these tokens, where they are those of one.
-#[tactic(auto, using(crate::proofs::Sound::schema_fits, crate::proofs::Sound::body_fits), unfolding(crate::specs::Reading::form_at))]
-pub fn read(alloc: Global, tokens: &[Token]) -> Result<Option<Tree>, Memory>
-    ensures { IfOk result (λ found. found ≡ form_at tokens.now) }
-{
-    let Some((globals, rest)) = schema_at(alloc, tokens)? else {
-        return Ok(None);
-    };
-    let Some((client, rest)) = client_opening(rest) else {
-        return Ok(None);
-    };
-    let client = client.copy(alloc)?;
-    let Some((acts, rest)) = body_at(alloc, globals.as_slice(), rest)? else {
-        return Ok(None);
-    };
-    if !rest.is_empty() {
-        return Ok(None);
-    }
-    Ok(Some(Tree::new(globals, client, acts)))
 }

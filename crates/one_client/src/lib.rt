@@ -1,0 +1,14 @@
+// What a program of one client means: its steps, its report, and that they are a lawful diagram.
+#![tactic(auto)]
+
+ghost use Rattle.std.specs.Prelude.{◌≡◌};
+ghost use Rattle.cloud_parse.specs.Form.{Form};
+ghost use Rattle.one_client.specs.Headline.{Headline};
+ghost use Rattle.one_client.specs.Program.{schema_of, trace, end_of};
+ghost use Rattle.one_client.specs.Steps.{steps_of};
+
+/// The steps of a run of one client are a lawful diagram in which it runs its program.
+pub fn runs_are_lawful()
+    ensures { (f : Form) → Headline (schema_of f) (trace f) (end_of f) (steps_of f) }
+{
+}
