@@ -53,6 +53,7 @@ pub fn ascending_lists()
 pub fn plain_steps()
     ensures set { (changes : List CellChange) (n : ℤ) → plain_int (changes ++ CellChange.SetInt n ∷ []) ≡ int_wrap w64 n }
     ensures add { (changes : List CellChange) (n : ℤ) → plain_int (changes ++ CellChange.Add n ∷ []) ≡ int_wrap w64 (plain_int changes +ℤ n) }
+    ensures no_integer { (changes : List CellChange) (words : List ℕ) → (plain_int (changes ++ CellChange.SetText words ∷ []) ≡ plain_int changes) × (plain_int (changes ++ CellChange.SetIfEmpty words ∷ []) ≡ plain_int changes) }
     ensures fits { (changes : List CellChange) → FitsSigned w64 (plain_int changes) }
     ensures text { (first second : List CellChange) → plain_text (first ++ second) ≡ walk_text (plain_text first) second }
 {
