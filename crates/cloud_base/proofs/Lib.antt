@@ -1,1 +1,8 @@
+pub mod Names
+mod AnswerLemmas
+mod DeadLemmas
+mod LogLemmas
+mod OrderLemmas
+mod PlainLemmas
+mod SortedLemmas
 mod TextLemmas

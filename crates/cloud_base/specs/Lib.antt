@@ -1,3 +1,6 @@
+pub mod Causes
+pub mod Streams
+pub mod Alike
 pub mod Answer
 pub mod Dead
 pub mod Log

@@ -27,13 +27,25 @@ impl Model for Name {
 }
 
 impl Name {
-    pub fn new(alloc: Global, text: &str) -> Result<Name, Memory>
-        requires { IsName text.now }
-        ensures { IfOk result (λ name. name ≡ text.now) }
+    pub fn new(alloc: Global, bytes: &[u8]) -> Result<Name, Memory>
+        requires { IsName bytes.now }
+        ensures { IfOk result (λ name. name ≡ bytes.now) }
     {
+        let Ok(text) = str::from_utf8(bytes) else {
+            unreachable!()
+        };
         Ok(Name {
             text: String::from_str(alloc, text)?,
         })
+    }
+
+    /// The same name.
+    pub fn copy(&self, alloc: Global) -> Result<Name, Memory>
+        ensures copy { IfOk result (λ name. name ≡ self.now) }
+        ensures name { IsName self.now }
+    {
+        let _ = &self.text;
+        Name::new(alloc, self.text.as_str().as_bytes())
     }
 
     pub fn as_str(&self) -> &str

@@ -1,0 +1,6 @@
+pub mod Diagram
+pub mod Lawful
+pub mod Right
+pub mod Once
+pub mod Story
+pub mod Meeting

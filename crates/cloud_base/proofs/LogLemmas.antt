@@ -1,0 +1,203 @@
+-- What a log's creations and deletions are, by its members.
+use Rattle.std.proofs.Common.{◌≡◌, refl, sym, ◌∙◌, ap, subst, ℕ, zero, suc, ◌<◌, ◌≤◌, Bool, true, false, not, ◌&&◌, ◌||◌, cond, List, [], ◌∷◌, ◌++◌, length, inl, inr, arith, Option, Some, None}
+use Rattle.std.specs.Prelude.{◌⊎◌, Contains, is_some, IsTrue, ◌==◌}
+use Rattle.std.specs.Option.{option_or}
+use Rattle.std.proofs.lemmas.Bool.{cases_Bool}
+use Rattle.cloud_base.specs.Values.{Id}
+use Rattle.cloud_base.specs.Order.{same_id, same_keys}
+use Rattle.cloud_base.specs.Log.{Creation, of_cell, touched, creation, created, is_created, is_deleted, parents, parents_of, ids_of}
+use Rattle.cloud_base.specs.Shaped.{NoRepeat, CreatedOnce}
+use Rattle.cloud_base.specs.declared.key.Key.{Key}
+use Rattle.cloud_base.specs.declared.update.Update.{Update}
+use Rattle.cloud_base.specs.declared.update.Update.TheVariants.{Cell, Create, Delete}
+use Rattle.cloud_base.proofs.OrderLemmas.{same_id_decides, same_id_itself}
+use Rattle.cloud_base.proofs.SortedLemmas.{here, there, none_in, split_member}
+
+-- ---- deletions
+
+pub deleted_member : (id : Id) (log : List Update) → is_deleted id log ≡ true → Contains log (Delete id)
+deleted_member id [] h = cc
+deleted_member id (Cell p ks c ∷ log) h = there (Cell p ks c) (Delete id) log (deleted_member id log h)
+deleted_member id (Create v e ks ∷ log) h = there (Create v e ks) (Delete id) log (deleted_member id log h)
+deleted_member id (Delete v ∷ log) h =
+    let P : Bool → Type 0 = λ b. (same_id v id ≡ b) → (b || is_deleted id log) ≡ true → Contains (Delete v ∷ log) (Delete id) in
+    let at : P (same_id v id) = elim (same_id v id) as P [
+      true ↦ λ e t. subst (λ w. Contains (Delete v ∷ log) (Delete w)) ((same_id_decides v id).0 e) (here (Delete v) log)
+    | false ↦ λ e t. there (Delete v) (Delete id) log (deleted_member id log t)
+    ] in
+    at refl h
+
+pub or_right : (x : Bool) → (x || true) ≡ true
+or_right true = refl
+or_right false = refl
+
+pub member_deleted : (id : Id) (log : List Update) → Contains log (Delete id) → is_deleted id log ≡ true
+member_deleted id [] h = absurd (none_in (Delete id) h)
+member_deleted id (Cell p ks c ∷ log) h = elim (split_member (Cell p ks c) (Delete id) log h) [ inl e ↦ cc | inr m ↦ member_deleted id log m ]
+member_deleted id (Create v e' ks ∷ log) h = elim (split_member (Create v e' ks) (Delete id) log h) [ inl e ↦ cc | inr m ↦ member_deleted id log m ]
+member_deleted id (Delete v ∷ log) h = elim (split_member (Delete v) (Delete id) log h) [
+    inl e ↦ let s : v ≡ id = cc in let t : same_id v id ≡ true = (same_id_decides v id).1 s in ap (λ b. b || is_deleted id log) t
+  | inr m ↦ ap (λ b. same_id v id || b) (member_deleted id log m) ∙ or_right (same_id v id)
+  ]
+
+-- ---- creations
+
+pub created_member : (id : Id) (log : List Update) (c : Creation) → creation id log ≡ Some c → Contains log (Create id c.entity c.keys)
+created_member id [] c h = cc
+created_member id (Cell p ks change ∷ log) c h = there (Cell p ks change) (Create id c.entity c.keys) log (created_member id log c h)
+created_member id (Delete v ∷ log) c h = there (Delete v) (Create id c.entity c.keys) log (created_member id log c h)
+created_member id (Create v e ks ∷ log) c h =
+    let first : Option Creation = Some (record { entity = e; keys = ks }) in
+    let P : Bool → Type 0 = λ b. (same_id v id ≡ b) → cond b first (creation id log) ≡ Some c → Contains (Create v e ks ∷ log) (Create id c.entity c.keys) in
+    let at : P (same_id v id) = elim (same_id v id) as P [
+      true ↦ λ t k. let s : v ≡ id = (same_id_decides v id).0 t in let r : record { entity = e; keys = ks } ≡ c = cc in subst (λ w. Contains (Create v e ks ∷ log) (Create w c.entity c.keys)) s (subst (λ (d : Creation). Contains (Create v e ks ∷ log) (Create v d.entity d.keys)) r (here (Create v e ks) log))
+    | false ↦ λ t k. there (Create v e ks) (Create id c.entity c.keys) log (created_member id log c k)
+    ] in
+    at refl h
+
+pub created_contains : (id : Id) (entity : ℕ) (keys : List Key) (log : List Update) → Contains log (Create id entity keys) → Contains (created log) id
+created_contains id entity keys [] h = absurd (none_in (Create id entity keys) h)
+created_contains id entity keys (Cell p ks c ∷ log) h = elim (split_member (Cell p ks c) (Create id entity keys) log h) [ inl e ↦ cc | inr m ↦ created_contains id entity keys log m ]
+created_contains id entity keys (Delete v ∷ log) h = elim (split_member (Delete v) (Create id entity keys) log h) [ inl e ↦ cc | inr m ↦ created_contains id entity keys log m ]
+created_contains id entity keys (Create v e' ks ∷ log) h = elim (split_member (Create v e' ks) (Create id entity keys) log h) [
+    inl e ↦ let s : v ≡ id = cc in subst (Contains (v ∷ created log)) s (here v (created log))
+  | inr m ↦ there v id (created log) (created_contains id entity keys log m)
+  ]
+
+-- in a log that creates no id twice, each creation is the first one of its id
+pub member_created : (id : Id) (entity : ℕ) (keys : List Key) (log : List Update) → CreatedOnce log → Contains log (Create id entity keys) → creation id log ≡ Some (record { entity = entity; keys = keys })
+member_created id entity keys [] once h = absurd (none_in (Create id entity keys) h)
+member_created id entity keys (Cell p ks c ∷ log) once h = elim (split_member (Cell p ks c) (Create id entity keys) log h) [ inl e ↦ cc | inr m ↦ member_created id entity keys log once m ]
+member_created id entity keys (Delete v ∷ log) once h = elim (split_member (Delete v) (Create id entity keys) log h) [ inl e ↦ cc | inr m ↦ member_created id entity keys log once m ]
+member_created id entity keys (Create v e' ks ∷ log) once h =
+    let Goal : Bool → Type 0 = λ b. cond b (Some (record { entity = e'; keys = ks })) (creation id log) ≡ Some (record { entity = entity; keys = keys }) in
+    elim (split_member (Create v e' ks) (Create id entity keys) log h) [
+      inl e ↦
+        let s : v ≡ id = cc in let p : e' ≡ entity = cc in let q : ks ≡ keys = cc in
+        subst Goal (sym ((same_id_decides v id).1 s)) (λ i. Some (record { entity = p i; keys = q i }))
+    | inr m ↦ elim (cases_Bool (same_id v id)) [
+        inl t ↦ absurd (once.0 (subst (Contains (created log)) (sym ((same_id_decides v id).0 t)) (created_contains id entity keys log m)))
+      | inr f ↦ subst Goal (sym f) (member_created id entity keys log once.1 m)
+      ]
+    ]
+
+-- what stays the first creation when more follows
+pub creation_stays : (id : Id) (log more : List Update) (c : Creation) → creation id log ≡ Some c → creation id (log ++ more) ≡ Some c
+creation_stays id [] more c h = cc
+creation_stays id (Cell p ks change ∷ log) more c h = creation_stays id log more c h
+creation_stays id (Delete v ∷ log) more c h = creation_stays id log more c h
+creation_stays id (Create v e ks ∷ log) more c h =
+    let first : Option Creation = Some (record { entity = e; keys = ks }) in
+    let P : Bool → Type 0 = λ b. cond b first (creation id log) ≡ Some c → cond b first (creation id (log ++ more)) ≡ Some c in
+    let at : P (same_id v id) = elim (same_id v id) as P [ true ↦ λ k. k | false ↦ λ k. creation_stays id log more c k ] in
+    at h
+
+-- ---- a log without the creations of an id
+
+pub without : Id → List Update → List Update
+without id [] = []
+without id (Cell p ks change ∷ log) = Cell p ks change ∷ without id log
+without id (Create v e ks ∷ log) = cond (same_id v id) (without id log) (Create v e ks ∷ without id log)
+without id (Delete v ∷ log) = Delete v ∷ without id log
+
+pub deleted_without : (u id : Id) (log : List Update) → is_deleted id (without u log) ≡ is_deleted id log
+unfolding without
+deleted_without u id [] = refl
+deleted_without u id (Cell p ks c ∷ log) = deleted_without u id log
+deleted_without u id (Delete v ∷ log) = ap (λ b. same_id v id || b) (deleted_without u id log)
+deleted_without u id (Create v e ks ∷ log) =
+    let P : Bool → Type 0 = λ b. is_deleted id (cond b (without u log) (Create v e ks ∷ without u log)) ≡ is_deleted id log in
+    elim (same_id v u) as P [ true ↦ deleted_without u id log | false ↦ deleted_without u id log ]
+
+pub creation_without_itself : (u : Id) (log : List Update) → creation u (without u log) ≡ None
+unfolding without
+creation_without_itself u [] = refl
+creation_without_itself u (Cell p ks c ∷ log) = creation_without_itself u log
+creation_without_itself u (Delete v ∷ log) = creation_without_itself u log
+creation_without_itself u (Create v e ks ∷ log) =
+    let P : Bool → Type 0 = λ b. same_id v u ≡ b → creation u (cond b (without u log) (Create v e ks ∷ without u log)) ≡ None in
+    let Q : Bool → Type 0 = λ b. cond b (Some (record { entity = e; keys = ks })) (creation u (without u log)) ≡ None in
+    let at : P (same_id v u) = elim (same_id v u) as P [ true ↦ λ t. creation_without_itself u log | false ↦ λ t. subst Q (sym t) (creation_without_itself u log) ] in
+    at refl
+
+pub creation_without : (u id : Id) (log : List Update) → same_id u id ≡ false → creation id (without u log) ≡ creation id log
+unfolding without
+creation_without u id [] n = refl
+creation_without u id (Cell p ks c ∷ log) n = creation_without u id log n
+creation_without u id (Delete v ∷ log) n = creation_without u id log n
+creation_without u id (Create v e ks ∷ log) n =
+    let first : Option Creation = Some (record { entity = e; keys = ks }) in
+    let P : Bool → Type 0 = λ b. same_id v u ≡ b → creation id (cond b (without u log) (Create v e ks ∷ without u log)) ≡ cond (same_id v id) first (creation id log) in
+    let Q : Bool → Type 0 = λ b. creation id (without u log) ≡ cond b first (creation id log) in
+    let at : P (same_id v u) = elim (same_id v u) as P [
+      true ↦ λ t. let other : same_id v id ≡ false = subst (λ w. same_id w id ≡ false) (sym ((same_id_decides v u).0 t)) n in subst Q (sym other) (creation_without u id log n)
+    | false ↦ λ t. ap (cond (same_id v id) first) (creation_without u id log n)
+    ] in
+    at refl
+
+pub fewer : (u : Id) (log : List Update) → length (created (without u log)) ≤ length (created log)
+unfolding without
+fewer u [] = omega arith
+fewer u (Cell p ks c ∷ log) = fewer u log
+fewer u (Delete v ∷ log) = fewer u log
+fewer u (Create v e ks ∷ log) =
+    let P : Bool → Type 0 = λ b. length (created (cond b (without u log) (Create v e ks ∷ without u log))) ≤ suc (length (created log)) in
+    let h = fewer u log in
+    elim (same_id v u) as P [ true ↦ omega arith | false ↦ omega arith ]
+
+pub one_fewer : (u : Id) (log : List Update) (c : Creation) → creation u log ≡ Some c → length (created (without u log)) < length (created log)
+unfolding without
+one_fewer u [] c h = cc
+one_fewer u (Cell p ks change ∷ log) c h = one_fewer u log c h
+one_fewer u (Delete v ∷ log) c h = one_fewer u log c h
+one_fewer u (Create v e ks ∷ log) c h =
+    let first : Option Creation = Some (record { entity = e; keys = ks }) in
+    let P : Bool → Type 0 = λ b. cond b first (creation u log) ≡ Some c → length (created (cond b (without u log) (Create v e ks ∷ without u log))) < suc (length (created log)) in
+    let k = fewer u log in
+    let at : P (same_id v u) = elim (same_id v u) as P [ true ↦ λ t. omega arith | false ↦ λ t. let m = one_fewer u log c t in omega arith ] in
+    at h
+
+-- ---- two logs, one after the other
+
+pub of_cell_parts : (property : ℕ) (keys : List Key) (log more : List Update) → of_cell property keys (log ++ more) ≡ of_cell property keys log ++ of_cell property keys more
+of_cell_parts property keys [] more = refl
+of_cell_parts property keys (Create id e ks ∷ log) more = of_cell_parts property keys log more
+of_cell_parts property keys (Delete id ∷ log) more = of_cell_parts property keys log more
+of_cell_parts property keys (Cell p ks c ∷ log) more =
+    let rest = of_cell_parts property keys log more in
+    let P : Bool → Type 0 = λ b. cond b (c ∷ of_cell property keys (log ++ more)) (of_cell property keys (log ++ more)) ≡ cond b (c ∷ of_cell property keys log) (of_cell property keys log) ++ of_cell property keys more in
+    elim ((p == property) && same_keys ks keys) as P [ true ↦ ap (λ cs. c ∷ cs) rest | false ↦ rest ]
+
+pub touched_parts : (property : ℕ) (log more : List Update) → touched property (log ++ more) ≡ touched property log ++ touched property more
+touched_parts property [] more = refl
+touched_parts property (Create id e ks ∷ log) more = touched_parts property log more
+touched_parts property (Delete id ∷ log) more = touched_parts property log more
+touched_parts property (Cell p ks c ∷ log) more =
+    let rest = touched_parts property log more in
+    let P : Bool → Type 0 = λ b. cond b (ks ∷ touched property (log ++ more)) (touched property (log ++ more)) ≡ cond b (ks ∷ touched property log) (touched property log) ++ touched property more in
+    elim (p == property) as P [ true ↦ ap (λ cs. ks ∷ cs) rest | false ↦ rest ]
+
+pub created_parts : (log more : List Update) → created (log ++ more) ≡ created log ++ created more
+created_parts [] more = refl
+created_parts (Cell p ks c ∷ log) more = created_parts log more
+created_parts (Create id e ks ∷ log) more = ap (λ ids. id ∷ ids) (created_parts log more)
+created_parts (Delete id ∷ log) more = created_parts log more
+
+or_assoc : (x y z : Bool) → (x || (y || z)) ≡ ((x || y) || z)
+or_assoc true y z = refl
+or_assoc false y z = refl
+
+pub deleted_parts : (id : Id) (log more : List Update) → is_deleted id (log ++ more) ≡ (is_deleted id log || is_deleted id more)
+deleted_parts id [] more = refl
+deleted_parts id (Cell p ks c ∷ log) more = deleted_parts id log more
+deleted_parts id (Create v e ks ∷ log) more = deleted_parts id log more
+deleted_parts id (Delete v ∷ log) more = ap (λ b. same_id v id || b) (deleted_parts id log more) ∙ or_assoc (same_id v id) (is_deleted id log) (is_deleted id more)
+
+pub creation_parts : (id : Id) (log more : List Update) → creation id (log ++ more) ≡ option_or (creation id log) (creation id more)
+creation_parts id [] more = refl
+creation_parts id (Cell p ks c ∷ log) more = creation_parts id log more
+creation_parts id (Delete v ∷ log) more = creation_parts id log more
+creation_parts id (Create v e ks ∷ log) more =
+    let first : Option Creation = Some (record { entity = e; keys = ks }) in
+    let P : Bool → Type 0 = λ b. cond b first (creation id (log ++ more)) ≡ option_or (cond b first (creation id log)) (creation id more) in
+    elim (same_id v id) as P [ true ↦ refl | false ↦ creation_parts id log more ]

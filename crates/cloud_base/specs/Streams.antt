@@ -1,0 +1,85 @@
+-- What a read hands out and what a write takes, where the object tells it.
+use Rattle.std.specs.Prelude.{◌≡◌, ℕ, ◌≤◌, ◌-◌, ◌+◌, ◌^◌, List, [], ◌∷◌, ◌++◌, ◌⊎◌, length, take, drop, min, Bool, false, if◌then◌else◌, ◌==◌, Option, Some, None, Result, Ok, Err}
+use Rattle.cloud_base.specs.Causes.{Rose}
+
+-- a read of a source that had these bytes left: the first of them are handed out and the others stay;
+-- 0 comes exactly where nothing is left, and a refusal leaves all
+abbrev pub Hands : {E : Type 0} → List ℕ → Option (List ℕ) → Result ℕ E → List ℕ → Type 0
+Hands bytes after (Ok n) into =
+    (n ≤ length bytes) × (take n into ≡ take n bytes) × (after ≡ Some (drop n bytes)) × (n ≡ 0 → bytes ≡ [])
+Hands bytes after (Err e) into = after ≡ Some bytes
+
+-- the same, where the source tells what is left
+abbrev pub HandsOut : {E : Type 0} → Option (List ℕ) → Option (List ℕ) → Result ℕ E → List ℕ → Type 0
+HandsOut None after result into = after ≡ None
+HandsOut (Some bytes) after result into = Hands bytes after result into
+
+-- an answer of 0 comes only where the count of ends rose, and any other answer leaves it
+abbrev pub Ends : {E : Type 0} → ℕ → ℕ → Result ℕ E → Type 0
+Ends before now (Ok n) = (before ≤ now) × (n ≡ 0 → Rose before now) × ((n ≡ 0 → ⊥) → now ≡ before)
+Ends before now (Err e) = now ≡ before
+
+-- a write of a piece: so many first bytes of it are held behind what was held, and a refusal adds nothing
+abbrev pub Takes : {E : Type 0} → Option (List ℕ) → Option (List ℕ) → Result ℕ E → List ℕ → Type 0
+Takes None after result piece = after ≡ None
+Takes (Some held) after (Ok n) piece = after ≡ Some (held ++ take n piece)
+Takes (Some held) after (Err e) piece = after ≡ Some held
+
+-- a refusal, and a write of nothing of a piece that isn't empty, come only where the count of faults rose;
+-- any other answer leaves it
+abbrev pub TakesCause : {E : Type 0} → ℕ → ℕ → Result ℕ E → List ℕ → Type 0
+TakesCause before now (Ok n) piece =
+    (before ≤ now) × (n ≡ 0 → (piece ≡ [] → ⊥) → Rose before now) × ((1 ≤ n) ⊎ (piece ≡ []) → now ≡ before)
+TakesCause before now (Err e) piece = Rose before now
+
+-- a source in memory: what is left, the most bytes of a read, the calls before the one that fails, and its counts
+pub record Reading : Type 0 where
+  pub left : List ℕ
+  pub piece : ℕ
+  pub fails_in : Option ℕ
+  pub faults : ℕ
+  pub ends : ℕ
+
+-- what a call does to the count of calls before the failing one
+abbrev pub one_sooner : Option ℕ → Option ℕ
+one_sooner None = None
+one_sooner (Some n) = if n == 0 then None else Some (n - 1)
+
+abbrev pub fails_now : Option ℕ → Bool
+fails_now None = false
+fails_now (Some n) = n == 0
+
+-- how many bytes a read hands out
+abbrev pub read_count : Reading → ℕ → ℕ
+read_count r room = min (min r.piece room) (length r.left)
+
+-- one more, up to the end of the type
+abbrev pub counted : ℕ → ℕ
+counted n = min (n + 1) (2 ^ 64 - 1)
+
+-- a source in memory after a read into so much room
+abbrev pub after_read : Reading → ℕ → Reading
+after_read r room = if fails_now r.fails_in then record r { fails_in = None; faults = counted r.faults } else record r { left = drop (read_count r room) r.left; fails_in = one_sooner r.fails_in; ends = if read_count r room == 0 then counted r.ends else r.ends }
+
+-- what that read answers: a refusal, or a count
+abbrev pub read_answer : Reading → ℕ → Option ℕ
+read_answer r room = if fails_now r.fails_in then None else Some (read_count r room)
+
+-- a sink in memory: what it holds, the most bytes of a write, the most bytes in all, and its count
+pub record Writing : Type 0 where
+  pub held : List ℕ
+  pub piece : ℕ
+  pub room : ℕ
+  pub faults : ℕ
+
+-- how many bytes of a piece a write takes
+abbrev pub write_count : Writing → List ℕ → ℕ
+write_count w piece = min (min w.piece (length piece)) (w.room - length w.held)
+
+-- a sink in memory after a write
+abbrev pub after_write : Writing → List ℕ → Writing
+after_write w piece = if length w.held == w.room then record w { faults = counted w.faults } else record w { held = w.held ++ take (write_count w piece) piece }
+
+-- what that write answers: a refusal, or a count
+abbrev pub write_answer : Writing → List ℕ → Option ℕ
+write_answer w piece = if length w.held == w.room then None else Some (write_count w piece)

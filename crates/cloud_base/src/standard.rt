@@ -1,0 +1,86 @@
+// Sources and sinks over std's readers and writers. They are the trusted edge: what a file or a
+// terminal gives or takes no contract tells.
+ghost use Rattle.std.specs.Prelude.{◌≡◌, None};
+
+use crate::outside::{Failed, Sink, Source};
+use std::io::{Read, Write};
+
+/// A reader of std. Each error of its calls is counted and answered as `Failed`.
+#[derive(Drop)]
+pub struct StdSource<R> {
+    inner: R,
+    faults: u64,
+    ends: u64,
+}
+
+impl<R> StdSource<R> {
+    pub fn new(reader: R) -> StdSource<R> {
+        StdSource {
+            inner: reader,
+            faults: 0,
+            ends: 0,
+        }
+    }
+}
+
+impl<R: Read> Source for StdSource<R> {
+    ghost left = { λ _. None };
+
+    ghost faults = { λ s. s.faults };
+
+    ghost ends = { λ s. s.ends };
+
+    fn read(&mut self, into: &mut [u8]) -> Result<usize, Failed> {
+        match self.inner.read(into) {
+            Ok(count) => {
+                if count == 0 {
+                    self.ends = self.ends.saturating_add(1);
+                }
+                Ok(count)
+            }
+            Err(_) => {
+                self.faults = self.faults.saturating_add(1);
+                Err(Failed)
+            }
+        }
+    }
+}
+
+/// A writer of std, flushed after each write. Each error of its calls is counted and answered as
+/// `Failed`, and so is a write that takes nothing of a piece that isn't empty.
+#[derive(Drop)]
+pub struct StdSink<W> {
+    inner: W,
+    faults: u64,
+}
+
+impl<W> StdSink<W> {
+    pub fn new(writer: W) -> StdSink<W> {
+        StdSink {
+            inner: writer,
+            faults: 0,
+        }
+    }
+}
+
+impl<W: Write> Sink for StdSink<W> {
+    ghost holds = { λ _. None };
+
+    ghost faults = { λ s. s.faults };
+
+    fn write(&mut self, piece: &[u8]) -> Result<usize, Failed> {
+        let taken = match self.inner.write(piece) {
+            Ok(count) => count,
+            Err(_) => {
+                self.faults = self.faults.saturating_add(1);
+                return Err(Failed);
+            }
+        };
+        let took_nothing = taken == 0 && !piece.is_empty();
+        if took_nothing || self.inner.flush().is_err() {
+            self.faults = self.faults.saturating_add(1);
+            return Err(Failed);
+        }
+        Ok(taken)
+    }
+}

@@ -1,0 +1,4 @@
+pub mod Form
+pub mod Reading
+pub mod Terminals
+pub mod Tokens

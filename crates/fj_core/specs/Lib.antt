@@ -1,0 +1,4 @@
+pub mod IntCells
+pub mod IntLaws
+pub mod TextCells
+pub mod TextLaws

@@ -1,0 +1,12 @@
+pub mod Steps
+pub mod Range
+pub mod Decide
+pub mod Worked
+pub mod Draws
+pub mod Logs
+pub mod Marks
+pub mod Order
+pub mod KeepsOnce
+pub mod Places
+pub mod Stories
+pub mod Kept

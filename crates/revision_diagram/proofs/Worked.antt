@@ -1,0 +1,202 @@
+-- Worked diagrams: a grocery list, which is right, and small wrong ones.
+use Rattle.std.specs.Prelude.{◌≡◌, ℕ, ◌+◌, Bool, true, false, cond, ◌&&◌, not, ◌==◌, List, [], ◌∷◌, map, Option, Some, None, pos, refl}
+use Rattle.std.proofs.Common.{lit<, arith}
+use Rattle.std.proofs.lemmas.Bool.Decides.{nat_tests}
+use Rattle.std.specs.List.{filter}
+use Rattle.cloud_base.specs.declared.update.Update.{Update}
+use Rattle.cloud_base.specs.declared.update.Update.TheVariants.{Cell}
+use Rattle.cloud_base.specs.declared.update.CellChange.TheVariants.{Add}
+use Rattle.cloud_base.specs.declared.update.Query.{Query}
+use Rattle.cloud_base.specs.declared.update.Query.TheVariants.{Get, All, Entries, Alive}
+use Rattle.cloud_base.specs.declared.update.Answer.{Answer}
+use Rattle.cloud_base.specs.declared.update.Answer.TheVariants.{Int, Text, Truth, Tuples}
+use Rattle.cloud_base.specs.declared.update.Event.{Event}
+use Rattle.cloud_base.specs.declared.update.Event.TheVariants.{Do as DoEvent, Ask as AskEvent, Say as SayEvent, Flush}
+use Rattle.cloud_base.specs.declared.batch.End.{End}
+use Rattle.cloud_base.specs.declared.batch.End.TheVariants.{Done}
+use Rattle.cloud_base.specs.declared.key.Key.{Key}
+use Rattle.cloud_base.specs.declared.key.Key.TheVariants.{Text as TextKey}
+use Rattle.revision_diagram.specs.declared.step.Step.{Step}
+use Rattle.revision_diagram.specs.declared.step.Step.TheVariants.{Fork, Join, Do, Ask, Say, Mark}
+use Rattle.revision_diagram.specs.Diagram.{path, acts_on}
+use Rattle.revision_diagram.specs.Lawful.{lawful, Lawful}
+use Rattle.revision_diagram.specs.Right.{AnsweredRight}
+use Rattle.revision_diagram.specs.Once.{Once, AfterSeen}
+use Rattle.revision_diagram.specs.Story.{story, is_in_line, LineLaw, ProgramLaw}
+use Rattle.revision_diagram.specs.Meeting.{Meeting, Placed, AtMarks, FlushLaw, is_placed, is_at_mark, below_server}
+use Rattle.revision_diagram.proofs.Decide.{each_step_passes, once_passes, AnsweredRight_passes}
+
+-- A grocery list: Grocery["milk"].quantity and Grocery["eggs"].quantity are cells of property 0.
+abbrev pub milk : List ℕ
+milk = 109 ∷ 105 ∷ 108 ∷ 107 ∷ []
+
+abbrev pub eggs : List ℕ
+eggs = 101 ∷ 103 ∷ 103 ∷ 115 ∷ []
+
+abbrev pub add : ℕ → List ℕ → ℕ → Step
+add r text n = Do r (Cell 0 (TextKey text ∷ []) (Add (pos n)))
+
+abbrev pub get : ℕ → List ℕ → ℕ → Step
+get r text n = Ask r (Get 0 (TextKey text ∷ [])) (Int (pos n))
+
+abbrev pub say_text : ℕ → List ℕ → Step
+say_text r text = Say r (Text text)
+
+abbrev pub say_number : ℕ → ℕ → Step
+say_number r n = Say r (Int (pos n))
+
+abbrev pub entries : ℕ → List (List ℕ) → Step
+entries r texts = Ask r (Entries 0) (Tuples (map (λ text. TextKey text ∷ []) texts))
+
+abbrev pub yield : ℕ → Step
+yield r = Mark r false
+
+abbrev pub flush : ℕ → Step
+flush r = Mark r true
+
+-- ann adds milk, bob adds milk and eggs, and cy looks.
+abbrev pub grocery_list : List Step
+grocery_list =
+    Fork 0 0 ∷ Fork 0 1 ∷ Fork 0 2 ∷ yield 3 ∷ Fork 3 2 ∷ Join 0 3 ∷ Fork 0 2
+    ∷ add 1 milk 2 ∷ flush 1 ∷ Fork 1 0 ∷ Join 0 1 ∷ Fork 0 0
+    ∷ flush 4 ∷ Join 5 4 ∷ Fork 5 2 ∷ Join 0 5 ∷ Fork 0 2
+    ∷ add 2 milk 1 ∷ add 2 eggs 12 ∷ flush 2 ∷ Fork 2 1 ∷ Join 0 2 ∷ Fork 0 1
+    ∷ Join 7 6 ∷ get 7 milk 2 ∷ say_number 7 2
+    ∷ Join 11 10 ∷ entries 11 (eggs ∷ milk ∷ []) ∷ say_text 11 eggs ∷ say_text 11 milk
+    ∷ Join 9 8 ∷ entries 9 (milk ∷ []) ∷ get 9 milk 2 ∷ say_number 9 2 ∷ []
+
+pub grocery_paths : map (path grocery_list) (0 ∷ 7 ∷ 9 ∷ 11 ∷ []) ≡ (7 ∷ 17 ∷ 18 ∷ []) ∷ (7 ∷ []) ∷ (7 ∷ []) ∷ (7 ∷ 17 ∷ 18 ∷ []) ∷ []
+grocery_paths = refl
+
+abbrev pub same_text : List ℕ → List ℕ → Bool
+same_text [] [] = true
+same_text [] (y ∷ ys) = false
+same_text (x ∷ xs) [] = false
+same_text (x ∷ xs) (y ∷ ys) = (x == y) && same_text xs ys
+
+abbrev pub is_at : List ℕ → List Key → Bool
+is_at text (TextKey key ∷ []) = same_text text key
+is_at text _ = false
+
+abbrev pub added_by : List ℕ → Update → ℕ
+added_by text (Cell property keys (Add (pos n))) = cond (is_at text keys) n 0
+added_by text _ = 0
+
+abbrev pub added : List Update → List ℕ → ℕ
+added [] text = 0
+added (u ∷ log) text = added log text + added_by text u
+
+abbrev pub quantity : List Update → List Key → ℕ
+quantity log (TextKey text ∷ []) = added log text
+quantity log _ = 0
+
+-- what a list with eggs and milk answers where all its updates add
+abbrev pub grocery_answers : List Update → Query → Answer
+grocery_answers log (Get property keys) = Int (pos (quantity log keys))
+grocery_answers log (Entries property) = Tuples (map (λ text. TextKey text ∷ []) (filter (λ text. not (added log text == 0)) (eggs ∷ milk ∷ [])))
+grocery_answers log (All entity) = Truth false
+grocery_answers log (Alive id) = Truth false
+
+pub grocery_is_lawful : Lawful grocery_list
+grocery_is_lawful = each_step_passes lawful grocery_list refl
+
+pub grocery_is_right : AnsweredRight grocery_answers grocery_list
+grocery_is_right = AnsweredRight_passes grocery_answers grocery_list refl
+
+pub grocery_is_once : Once grocery_list
+grocery_is_once = once_passes grocery_list refl
+
+pub grocery_stories : map (story grocery_list) (0 ∷ 1 ∷ 2 ∷ []) ≡ (7 ∷ 8 ∷ 24 ∷ 25 ∷ []) ∷ (17 ∷ 18 ∷ 19 ∷ 27 ∷ 28 ∷ 29 ∷ []) ∷ (3 ∷ 12 ∷ 31 ∷ 32 ∷ 33 ∷ []) ∷ []
+grocery_stories = refl
+
+pub grocery_is_in_line : (LineLaw grocery_list 0) × (LineLaw grocery_list 1) × (LineLaw grocery_list 2)
+grocery_is_in_line = (
+  each_step_passes (λ front s. is_in_line 0 front (acts_on s)) grocery_list refl,
+  each_step_passes (λ front s. is_in_line 1 front (acts_on s)) grocery_list refl,
+  each_step_passes (λ front s. is_in_line 2 front (acts_on s)) grocery_list refl,
+)
+
+pub grocery_meets : Meeting below_server grocery_list
+grocery_meets = record {
+  placed = each_step_passes (is_placed below_server) grocery_list refl;
+  at_marks = each_step_passes (is_at_mark below_server) grocery_list refl;
+  flushed = (
+    record { join = 10; fork = 11; joined = refl; forked = refl; later = lit< tt; seen = refl },
+    (
+      record { join = 15; fork = 16; joined = refl; forked = refl; later = lit< tt; seen = refl },
+      (
+        record { join = 21; fork = 22; joined = refl; forked = refl; later = lit< tt; seen = refl },
+        tt,
+      ),
+    ),
+  );
+}
+
+-- ann's program: add milk, flush, print the milk
+abbrev pub ann_trace : List Answer → List Event × Option End
+ann_trace [] = (DoEvent (Cell 0 (TextKey milk ∷ []) (Add (pos 2))) ∷ Flush ∷ [], None)
+ann_trace (a ∷ answers) = (DoEvent (Cell 0 (TextKey milk ∷ []) (Add (pos 2))) ∷ Flush ∷ AskEvent (Get 0 (TextKey milk ∷ [])) a ∷ SayEvent a ∷ [], Some Done)
+
+pub ann_runs_her_program : ProgramLaw ann_trace (Some Done) grocery_list 0
+ann_runs_her_program = refl
+
+-- Wrong ones: each is refused by the definition that it breaks.
+
+pub joins_server : ¬ (Lawful (Fork 0 0 ∷ Join 1 0 ∷ []))
+joins_server h = let no = h.1.0 in cc
+
+pub joins_itself : ¬ (Lawful (Fork 0 0 ∷ Join 1 1 ∷ []))
+joins_itself h = let no = h.1.0 in cc
+
+-- revision 2 has not seen the fork of 3
+pub joins_unseen_fork : ¬ (Lawful (Fork 0 0 ∷ Fork 0 1 ∷ Fork 1 0 ∷ Join 2 3 ∷ []))
+joins_unseen_fork h = let no = h.1.1.1.0 in cc
+
+pub joins_twice : ¬ (Lawful (Fork 0 0 ∷ Join 0 1 ∷ Join 0 1 ∷ []))
+joins_twice h = let no = h.1.1.0 in cc
+
+pub acts_when_joined : ¬ (Lawful (Fork 0 0 ∷ Join 0 1 ∷ yield 1 ∷ []))
+acts_when_joined h = let no = h.1.1.0 in cc
+
+pub forks_nobody : ¬ (Lawful (Fork 1 0 ∷ []))
+forks_nobody h = let no = h.0 in cc
+
+-- A lawful join of a revision into its own fork, which has its update already.
+abbrev pub doubled : List Step
+doubled = Fork 0 0 ∷ add 1 milk 2 ∷ Fork 1 0 ∷ Join 2 1 ∷ []
+
+pub doubled_is_lawful : Lawful doubled
+doubled_is_lawful = each_step_passes lawful doubled refl
+
+pub doubled_path : path doubled 2 ≡ 1 ∷ 1 ∷ []
+doubled_path = refl
+
+pub doubles : ¬ (Once doubled)
+doubles h = let no = (h.1.1.1.1 2 refl).0 1 in cc
+
+-- eggs were added by who had seen the milk, and stand before it
+abbrev pub out_of_order : List Step
+out_of_order = Fork 0 0 ∷ add 1 milk 2 ∷ Fork 1 0 ∷ add 2 eggs 12 ∷ Join 0 2 ∷ Join 0 1 ∷ []
+
+pub out_of_order_path : path out_of_order 0 ≡ 3 ∷ 1 ∷ []
+out_of_order_path = refl
+
+pub comes_before_seen : ¬ (AfterSeen out_of_order 0)
+comes_before_seen h = cc
+
+-- the answer is the server's, which has not seen the milk
+pub answers_other_path : ¬ (AnsweredRight grocery_answers (Fork 0 0 ∷ add 1 milk 2 ∷ get 1 milk 0 ∷ []))
+answers_other_path h = let no = h.1.1.0 in cc
+
+-- a client goes on at a revision that has not seen what it did
+pub forgets_its_past : ¬ (LineLaw (Fork 0 0 ∷ Fork 0 0 ∷ add 1 milk 2 ∷ add 2 milk 2 ∷ []) 0)
+forgets_its_past h = let no = h.1.1.1.0 in cc
+
+pub joins_before_mark : ¬ (AtMarks below_server (Fork 0 0 ∷ add 1 milk 2 ∷ Join 0 1 ∷ yield 1 ∷ []))
+joins_before_mark h = let no = h.1.1.0 in cc
+
+pub joins_other_client : ¬ (Placed below_server (Fork 0 0 ∷ Fork 0 1 ∷ Join 1 2 ∷ []))
+joins_other_client h = let no = h.1.1.0 in cc
+
+pub goes_on_in_flush : ¬ (FlushLaw below_server (Fork 0 0 ∷ flush 1 ∷ get 1 milk 0 ∷ []))
+goes_on_in_flush h = let at = h.0.later in let seen = h.0.seen in grind (arith, nat_tests, h.0.later, h.0.seen)

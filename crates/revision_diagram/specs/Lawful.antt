@@ -1,0 +1,19 @@
+-- Which steps may come after which.
+use Rattle.std.specs.Prelude.{Bool, ◌&&◌, not, ◌==◌, List, IsTrue}
+use Rattle.revision_diagram.specs.declared.step.Step.{Step}
+use Rattle.revision_diagram.specs.declared.step.Step.TheVariants.{Fork, Join, Do, Ask, Say, Mark}
+use Rattle.revision_diagram.specs.Diagram.{EachStep, live, past, fork}
+
+-- The revisions that a step names are live. A joined one is neither the server nor the joiner, and the
+-- place of its fork is in the joiner's past.
+abbrev pub lawful : List Step → Step → Bool
+lawful front (Fork r c) = live front r
+lawful front (Join r s) = live front r && live front s && not (s == 0) && not (s == r) && past front r (fork front s)
+lawful front (Do r u) = live front r
+lawful front (Ask r q a) = live front r
+lawful front (Say r v) = live front r
+lawful front (Mark r flush) = live front r
+
+-- each step is lawful after those before it
+abbrev pub Lawful : List Step → Type 0
+Lawful steps = EachStep (λ front s. IsTrue (lawful front s)) steps
