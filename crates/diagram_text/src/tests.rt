@@ -47,10 +47,14 @@ end bob Done
 end cy Done
 ";
 
-fn of_text(text: &str) -> Result<Keys, Fail> {
+fn text(text: &str) -> Text {
+    Text::new(text.as_bytes()).unwrap_or(Text::empty())
+}
+
+fn of_text(bytes: &str) -> Keys {
     let mut keys = Keys::empty();
-    keys.push(Key::Text(Text::new(text.as_bytes())?));
-    Ok(keys)
+    keys.push(Key::Text(text(bytes)));
+    keys
 }
 
 fn schema_of(
@@ -91,8 +95,9 @@ fn grocery_list(alloc: Global) -> Result<Vec<u8>, Fail> {
         Name::new(alloc, "bob")?,
         Name::new(alloc, "cy")?,
     ];
-    let mut both = tuples(alloc, of_text("eggs")?)?;
-    both.push(of_text("milk")?)?;
+    let mut both = tuples(alloc, of_text("eggs"))?;
+    both.push(of_text("milk"))?;
+    let milk = tuples(alloc, of_text("milk"))?;
     let steps = [
         Step::Fork(0, 0),
         Step::Fork(0, 1),
@@ -101,7 +106,7 @@ fn grocery_list(alloc: Global) -> Result<Vec<u8>, Fail> {
         Step::Fork(3, 2),
         Step::Join(0, 3),
         Step::Fork(0, 2),
-        Step::Do(1, Update::Cell(0, of_text("milk")?, CellChange::Add(2))),
+        Step::Do(1, Update::Cell(0, of_text("milk"), CellChange::Add(2))),
         Step::Mark(1, true),
         Step::Fork(1, 0),
         Step::Join(0, 1),
@@ -111,26 +116,22 @@ fn grocery_list(alloc: Global) -> Result<Vec<u8>, Fail> {
         Step::Fork(5, 2),
         Step::Join(0, 5),
         Step::Fork(0, 2),
-        Step::Do(2, Update::Cell(0, of_text("milk")?, CellChange::Add(1))),
-        Step::Do(2, Update::Cell(0, of_text("eggs")?, CellChange::Add(12))),
+        Step::Do(2, Update::Cell(0, of_text("milk"), CellChange::Add(1))),
+        Step::Do(2, Update::Cell(0, of_text("eggs"), CellChange::Add(12))),
         Step::Mark(2, true),
         Step::Fork(2, 1),
         Step::Join(0, 2),
         Step::Fork(0, 1),
         Step::Join(7, 6),
-        Step::Ask(7, Query::Get(0, of_text("milk")?), Answer::Int(2)),
+        Step::Ask(7, Query::Get(0, of_text("milk")), Answer::Int(2)),
         Step::Say(7, Answer::Int(2)),
         Step::Join(11, 10),
         Step::Ask(11, Query::Entries(0), Answer::Tuples(both)),
-        Step::Say(11, Answer::Text(Text::new(b"eggs")?)),
-        Step::Say(11, Answer::Text(Text::new(b"milk")?)),
+        Step::Say(11, Answer::Text(text("eggs"))),
+        Step::Say(11, Answer::Text(text("milk"))),
         Step::Join(9, 8),
-        Step::Ask(
-            9,
-            Query::Entries(0),
-            Answer::Tuples(tuples(alloc, of_text("milk")?)?),
-        ),
-        Step::Ask(9, Query::Get(0, of_text("milk")?), Answer::Int(2)),
+        Step::Ask(9, Query::Entries(0), Answer::Tuples(milk)),
+        Step::Ask(9, Query::Get(0, of_text("milk")), Answer::Int(2)),
         Step::Say(9, Answer::Int(2)),
     ];
     Ok(report(
@@ -261,12 +262,12 @@ fn deletion(alloc: Global) -> Result<Vec<u8>, Fail> {
 /// What each other call prints.
 fn parts(alloc: Global) -> Result<[Vec<u8>; 5], Fail> {
     let schema = groceries(alloc)?;
-    let text = Answer::Text(Text::new(b"a \"b\" \\")?);
-    let change = CellChange::SetIfEmpty(Text::new(b"ann")?);
+    let answer = Answer::Text(text("a \"b\" \\"));
+    let change = CellChange::SetIfEmpty(text("ann"));
     Ok([
         update_text(alloc, &schema, &Update::Cell(0, of_id(3), change))?,
         query_text(alloc, &schema, &Query::Entries(0))?,
-        answer_text(alloc, &text)?,
+        answer_text(alloc, &answer)?,
         step_text(alloc, &schema, &[], 7, &Step::Join(0, 6))?,
         end_text(alloc, End::Trap { line: 4 })?,
     ])
