@@ -1,0 +1,4 @@
+// Playing a program of one client.
+#![tactic(auto)]
+
+mod globals;
