@@ -1,6 +1,6 @@
 -- What is written is read again.
 use Rattle.std.proofs.Common.{◌≡◌, ℕ, zero, suc, ◌+◌, ◌<◌, ◌≤◌, ◌^◌, Bool, true, false, cond, List, [], ◌∷◌, ◌++◌, length, refl, ap, sym, ◌∙◌, subst, arith, append_assoc, append-nil, length-append, Option, Some, None, option_map, nat_lt, slice_index_or}
-use Rattle.std.specs.Prelude.{option_and_then, is_none}
+use Rattle.std.specs.Prelude.{option_and_then, is_none, Result, Ok, Err, IfOk, IfSome, MatchOption}
 use Rattle.std.specs.List.{AllByRecursion, flat_map}
 use Rattle.std.proofs.lemmas.Bool.Decides.{nat_tests}
 use Rattle.cloud_parse.specs.declared.terminal.Terminal.TheVariants as terminal
@@ -15,6 +15,7 @@ use Rattle.cloud_parse.specs.Tokens.{tokens}
 use Rattle.cloud_parse.specs.Form.{Form, IsForm, HasForm, place_of, most_globals, AllDifferent, ActFits, global_tokens, amount_tokens, operation_token, act_tokens, form_tokens}
 use Rattle.cloud_parse.specs.Reading.{Reads, behind, name_at, number_at, amount_of, amount_at, operation_at, global_at, change_at, print_at, act_at, acts_at, declared_at, globals_at, schema_opening, schema_at, client_opening, body_at, form_at}
 use Rattle.cloud_parse.proofs.Places.{place_back, different_front}
+use Rattle.cloud_parse.proofs.Sound.{form_is}
 
 -- a step of a reader that had a value
 then : {A B : Type 0} (o : Option A) (f : A → Option B) (x : A) (y : Option B) → o ≡ Some x → f x ≡ y → option_and_then f o ≡ y
@@ -157,12 +158,20 @@ one_form text f g h k =
     let both : Some f ≡ Some g = sym (form_back f h.form) ∙ ap form_at same ∙ form_back g k.form in
     cc both
 
--- without tokens, or where these are those of no form, there is no form
+-- without tokens there is no form
 pub tokenless : (text : List ℕ) → tokens text ≡ None → (f : Form) → HasForm text f → ⊥
 tokenless text e f h = let both : None ≡ Some (form_tokens f) = sym e ∙ h.written in absurd (cc both)
 
-pub formless : (text : List ℕ) (found : List Token) → tokens text ≡ Some found → form_at found ≡ None → (f : Form) → HasForm text f → ⊥
-formless text found e none f h =
+form_found : (text : List ℕ) (found : List Token) (o : Option Form) → tokens text ≡ Some found → o ≡ form_at found → IfSome o IsForm
+    → MatchOption o ((f : Form) → HasForm text f → ⊥) (λ f. HasForm text f)
+form_found text found None e is fits = λ f h.
     let same : found ≡ form_tokens f = cc (sym e ∙ h.written) in
-    let both : None ≡ Some f = sym none ∙ ap form_at same ∙ form_back f h.form in
+    let both : None ≡ Some f = is ∙ ap form_at same ∙ form_back f h.form in
     absurd (cc both)
+form_found text found (Some f) e is fits = record { form = fits; written = e ∙ ap Some (form_is found f (sym is)) }
+
+-- what was read of a text's tokens is the text's form
+pub forms_found : {E : Type 0} (text : List ℕ) (found : List Token) (r : Result (Option Form) E) → tokens text ≡ Some found → IfOk r (λ o. o ≡ form_at found) → IfOk r (λ o. IfSome o IsForm)
+    → IfOk r (λ o. MatchOption o ((f : Form) → HasForm text f → ⊥) (λ f. HasForm text f))
+forms_found text found (Ok o) e is fits = form_found text found o e is fits
+forms_found text found (Err x) e is fits = tt

@@ -2,7 +2,7 @@
 ghost use Rattle.std.specs.Prelude.{◌≡◌, [], ◌∷◌, ◌++◌, ◌^◌, ◌<◌, ◌≤◌, length, option_map, IfOk, IfSome, MatchOption};
 ghost use Rattle.std.specs.List.{AllByRecursion};
 ghost use Rattle.cloud_base.specs.Values.{IsName};
-ghost use Rattle.cloud_parse.specs.Form.{place_of, most_globals};
+ghost use Rattle.cloud_parse.specs.Form.{IsForm, place_of, most_globals};
 ghost use Rattle.cloud_parse.specs.Reading.{behind, name_at, number_at, amount_at, operation_at, global_at, change_at, print_at, act_at, acts_at, declared_at, globals_at, schema_opening, schema_at, client_opening, body_at, form_at};
 
 use crate::terminal::Terminal;
@@ -229,10 +229,11 @@ fn schema_at(
     }
 }
 
-/// The tree of these tokens, where they are those of one.
-#[tactic(auto, using(crate::proofs::Sound::schema_fits, crate::proofs::Sound::body_fits), unfolding(crate::specs::Reading::form_at))]
-pub fn read(alloc: Global, tokens: &[Token]) -> Result<Option<Tree>, Memory>
-    ensures { IfOk result (λ found. found ≡ form_at tokens.now) }
+// The tree of these tokens, where they are those of one.
+#[tactic(auto, unfolding(crate::specs::Reading::form_at))]
+pub(crate) fn read(alloc: Global, tokens: &[Token]) -> Result<Option<Tree>, Memory>
+    ensures tree { IfOk result (λ found. found ≡ form_at tokens.now) }
+    ensures form { IfOk result (λ found. IfSome found IsForm) }
 {
     let Some((globals, rest)) = schema_at(alloc, tokens)? else {
         return Ok(None);

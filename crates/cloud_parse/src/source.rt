@@ -15,7 +15,7 @@ use std::alloc::Global;
 /// The most bytes of a source text.
 pub const MOST_TEXT: usize = 262_144;
 
-#[tactic(auto, using(crate::proofs::Complete::formless, crate::proofs::Complete::tokenless, crate::proofs::Sound::form_is))]
+#[tactic(auto, using(crate::proofs::Complete::tokenless))]
 fn tree_of(alloc: Global, text: &[u8]) -> Result<Option<Tree>, Memory>
     ensures { IfOk result (λ found. MatchOption found ((f : Form) → HasForm text.now f → ⊥) (λ tree. HasForm text.now tree)) }
 {
