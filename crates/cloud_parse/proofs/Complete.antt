@@ -51,7 +51,7 @@ change_back : (globals : List (List ℕ)) (g : ℕ) (op : Operation) (a : Amount
 unfolding change_at behind
 change_back globals g op a rest d h small =
     let inner : amount_at ((amount_tokens a ++ (Fixed terminal.CloseParen ∷ Fixed terminal.Semicolon ∷ [])) ++ rest) ≡ Some (a, Fixed terminal.CloseParen ∷ Fixed terminal.Semicolon ∷ rest) =
-        ap amount_at (append_assoc (amount_tokens a) (Fixed terminal.CloseParen ∷ Fixed terminal.Semicolon ∷ []) rest) ∙ amount_back a (Fixed terminal.CloseParen ∷ Fixed terminal.Semicolon ∷ rest) small in
+    ap amount_at (append_assoc (amount_tokens a) (Fixed terminal.CloseParen ∷ Fixed terminal.Semicolon ∷ []) rest) ∙ amount_back a (Fixed terminal.CloseParen ∷ Fixed terminal.Semicolon ∷ rest) small in
     then _ _ _ _ (global_back globals g _ d h) (then _ _ _ _ (operation_back op _) (then _ _ _ _ inner refl))
 
 print_back : (globals : List (List ℕ)) (g : ℕ) (rest : List Token) → AllDifferent globals → g < length globals

@@ -130,16 +130,18 @@ change_is globals tokens x h =
     let a = amount_is open_paren.0 amount.0 amount.1 in
     let front : List Token = amount_tokens amount.0.0 in
     let last : amount.0.1 ≡ Fixed terminal.CloseParen ∷ Fixed terminal.Semicolon ∷ rest.0 =
-        behind_is terminal.CloseParen amount.0.1 close_paren.0 close_paren.1 ∙ ap (λ r. Fixed terminal.CloseParen ∷ r) (behind_is terminal.Semicolon close_paren.0 rest.0 rest.1) in
+    behind_is terminal.CloseParen amount.0.1 close_paren.0 close_paren.1 ∙ ap (λ r. Fixed terminal.CloseParen ∷ r) (behind_is terminal.Semicolon close_paren.0 rest.0 rest.1) in
     let inner : open_paren.0 ≡ (amount_tokens amount.0.0 ++ (Fixed terminal.CloseParen ∷ Fixed terminal.Semicolon ∷ [])) ++ rest.0 =
-        a.0 ∙ ap (λ r. amount_tokens amount.0.0 ++ r) last ∙ sym (append_assoc (amount_tokens amount.0.0) (Fixed terminal.CloseParen ∷ Fixed terminal.Semicolon ∷ []) rest.0) in
+    a.0 ∙ ap (λ r. amount_tokens amount.0.0 ++ r) last ∙ sym (append_assoc (amount_tokens amount.0.0) (Fixed terminal.CloseParen ∷ Fixed terminal.Semicolon ∷ []) rest.0) in
     let behind_global : global.0.1 ≡ Fixed terminal.Dot ∷ operation_token operation.0.0 ∷ Fixed terminal.OpenParen ∷ open_paren.0 =
-        behind_is terminal.Dot global.0.1 dot.0 dot.1
-        ∙ ap (λ r. Fixed terminal.Dot ∷ r) (operation_is dot.0 operation.0 operation.1
-        ∙ ap (λ r. operation_token operation.0.0 ∷ r) (behind_is terminal.OpenParen operation.0.1 open_paren.0 open_paren.1)) in
-    subst (ActIs globals tokens) same
-    (g.0 ∙ ap (λ r. Name (slice_index_or globals global.0.0 []) ∷ r) (behind_global
-    ∙ ap (λ r. Fixed terminal.Dot ∷ operation_token operation.0.0 ∷ Fixed terminal.OpenParen ∷ r) inner), (g.1, a.1))
+    behind_is terminal.Dot global.0.1 dot.0 dot.1
+    ∙ ap (λ r. Fixed terminal.Dot ∷ r) (operation_is dot.0 operation.0 operation.1
+    ∙ ap (λ r. operation_token operation.0.0 ∷ r) (behind_is terminal.OpenParen operation.0.1 open_paren.0 open_paren.1)) in
+    subst (ActIs globals tokens) same (
+      g.0 ∙ ap (λ r. Name (slice_index_or globals global.0.0 []) ∷ r) (behind_global
+          ∙ ap (λ r. Fixed terminal.Dot ∷ operation_token operation.0.0 ∷ Fixed terminal.OpenParen ∷ r) inner),
+      (g.1, a.1),
+    )
 
 print_is : (globals : List (List ℕ)) (tokens : List Token) (x : Act × List Token) → print_at globals tokens ≡ Some x → ActIs globals (Fixed terminal.Print ∷ tokens) x
 unfolding print_at
@@ -153,8 +155,9 @@ print_is globals tokens x h =
 
 act_by : (print yield : Option (List Token)) (globals : List (List ℕ)) (tokens : List Token) (x : Act × List Token) → behind terminal.Print tokens ≡ print → behind terminal.Yield tokens ≡ yield
     → elim print as (λ _. Reads Act) [
-        Some rest ↦ print_at globals rest
-      | None ↦ elim yield as (λ _. Reads Act) [ Some rest ↦ option_map (λ rest. (Yield, rest)) (behind terminal.Semicolon rest) | None ↦ change_at globals tokens ] ] ≡ Some x
+      | Some rest ↦ print_at globals rest
+      | None ↦ elim yield as (λ _. Reads Act) [ Some rest ↦ option_map (λ rest. (Yield, rest)) (behind terminal.Semicolon rest) | None ↦ change_at globals tokens ]
+    ] ≡ Some x
     → ActIs globals tokens x
 act_by (Some rest) yield globals tokens x e f h = subst (λ t. ActIs globals t x) (sym (behind_is terminal.Print tokens rest e)) (print_is globals rest x h)
 act_by None (Some rest) globals tokens x e f h =
@@ -172,8 +175,9 @@ ActsAre globals tokens x = (tokens ≡ flat_map (act_tokens globals) x.0 ++ (Fix
 acts_by : (o : Option (List Token)) (n : ℕ) (globals : List (List ℕ)) (tokens : List Token) (x : List Act × List Token) → behind terminal.CloseBrace tokens ≡ o
     → ((tokens : List Token) (x : List Act × List Token) → acts_at n globals tokens ≡ Some x → ActsAre globals tokens x)
     → elim o as (λ _. Reads (List Act)) [
-        Some rest ↦ Some ([], rest)
-      | None ↦ option_and_then (λ act. option_and_then (λ more. Some (act.0 ∷ more.0, more.1)) (acts_at n globals act.1)) (act_at globals tokens) ] ≡ Some x
+      | Some rest ↦ Some ([], rest)
+      | None ↦ option_and_then (λ act. option_and_then (λ more. Some (act.0 ∷ more.0, more.1)) (acts_at n globals act.1)) (act_at globals tokens)
+    ] ≡ Some x
     → ActsAre globals tokens x
 acts_by (Some rest) n globals tokens x e before h =
     let same : ([], rest) ≡ x = cc h in
@@ -184,9 +188,11 @@ acts_by None n globals tokens x e before h =
     let same : (act.0.0 ∷ more.0.0, more.0.1) ≡ x = cc more.2 in
     let a = act_is globals tokens act.0 act.1 in
     let m = before act.0.1 more.0 more.1 in
-    subst (ActsAre globals tokens) same
-    (a.0 ∙ ap (λ r. act_tokens globals act.0.0 ++ r) m.0
-    ∙ sym (append_assoc (act_tokens globals act.0.0) (flat_map (act_tokens globals) more.0.0) (Fixed terminal.CloseBrace ∷ more.0.1)), (a.1, m.1))
+    subst (ActsAre globals tokens) same (
+      a.0 ∙ ap (λ r. act_tokens globals act.0.0 ++ r) m.0
+          ∙ sym (append_assoc (act_tokens globals act.0.0) (flat_map (act_tokens globals) more.0.0) (Fixed terminal.CloseBrace ∷ more.0.1)),
+      (a.1, m.1),
+    )
 
 pub acts_are : (n : ℕ) (globals : List (List ℕ)) (tokens : List Token) (x : List Act × List Token) → acts_at n globals tokens ≡ Some x → ActsAre globals tokens x
 unfolding acts_at
@@ -212,12 +218,15 @@ declared_is globals tokens x h =
     let new = guarded (is_none (place_of name.0.0 globals)) _ x few.1 in
     let same : (name.0.0, rest.0) ≡ x = cc new.1 in
     let room : length globals < most_globals = grind (arith, nat_tests, few.0) in
-    subst (DeclaredIs globals tokens) same
-    (behind_is terminal.Global tokens global.0 global.1
-    ∙ ap (λ r. Fixed terminal.Global ∷ r) (name_is global.0 name.0 name.1
-    ∙ ap (λ r. Name name.0.0 ∷ r) (behind_is terminal.Colon name.0.1 colon.0 colon.1
-    ∙ ap (λ r. Fixed terminal.Colon ∷ r) (behind_is terminal.CInt colon.0 type.0 type.1
-    ∙ ap (λ r. Fixed terminal.CInt ∷ r) (behind_is terminal.Semicolon type.0 rest.0 rest.1)))), room, is_none_is _ new.0)
+    subst (DeclaredIs globals tokens) same (
+      behind_is terminal.Global tokens global.0 global.1
+          ∙ ap (λ r. Fixed terminal.Global ∷ r) (name_is global.0 name.0 name.1
+          ∙ ap (λ r. Name name.0.0 ∷ r) (behind_is terminal.Colon name.0.1 colon.0 colon.1
+          ∙ ap (λ r. Fixed terminal.Colon ∷ r) (behind_is terminal.CInt colon.0 type.0 type.1
+          ∙ ap (λ r. Fixed terminal.CInt ∷ r) (behind_is terminal.Semicolon type.0 rest.0 rest.1)))),
+      room,
+      is_none_is _ new.0,
+    )
 
 -- declarations of new names behind those known
 pub record GlobalsAre (known : List (List ℕ)) (tokens : List Token) (x : List (List ℕ) × List Token) : Type 0 where
@@ -230,8 +239,9 @@ pub record GlobalsAre (known : List (List ℕ)) (tokens : List Token) (x : List 
 globals_by : (o : Option (List Token)) (n : ℕ) (known : List (List ℕ)) (tokens : List Token) (x : List (List ℕ) × List Token) → behind terminal.CloseBrace tokens ≡ o
     → ((known : List (List ℕ)) (tokens : List Token) (x : List (List ℕ) × List Token) → globals_at n known tokens ≡ Some x → AllDifferent known → length known ≤ most_globals → GlobalsAre known tokens x)
     → elim o as (λ _. Reads (List (List ℕ))) [
-        Some rest ↦ Some (known, rest)
-      | None ↦ option_and_then (λ more. globals_at n (known ++ more.0 ∷ []) more.1) (declared_at known tokens) ] ≡ Some x
+      | Some rest ↦ Some (known, rest)
+      | None ↦ option_and_then (λ more. globals_at n (known ++ more.0 ∷ []) more.1) (declared_at known tokens)
+    ] ≡ Some x
     → AllDifferent known → length known ≤ most_globals → GlobalsAre known tokens x
 globals_by (Some rest) n known tokens x e before h d few =
     let same : (known, rest) ≡ x = cc h in
@@ -246,7 +256,7 @@ globals_by None n known tokens x e before h d few =
       all = m.all ∙ append_assoc known (one.0.0 ∷ []) m.new;
       written = is.0 ∙ ap (λ r. global_tokens one.0.0 ++ r) m.written;
       different = m.different;
-      few = m.few
+      few = m.few;
     }
 
 pub globals_are : (n : ℕ) (known : List (List ℕ)) (tokens : List Token) (x : List (List ℕ) × List Token) → globals_at n known tokens ≡ Some x → AllDifferent known → length known ≤ most_globals → GlobalsAre known tokens x
@@ -274,7 +284,7 @@ schema_is tokens x h =
     record {
       written = opening_is tokens rest.0 rest.1 ∙ ap (λ r. Fixed terminal.Schema ∷ Fixed terminal.OpenBrace ∷ r) (g.written ∙ ap (λ gs. flat_map global_tokens gs ++ (Fixed terminal.CloseBrace ∷ x.1)) (sym g.all));
       different = g.different;
-      few = g.few
+      few = g.few;
     }
 
 client_is : (tokens : List Token) (x : List ℕ × List Token) → client_opening tokens ≡ Some x → tokens ≡ Fixed terminal.Client ∷ Name x.0 ∷ Fixed terminal.OpenBrace ∷ x.1

@@ -15,7 +15,7 @@ pub enum Which {
 }
 
 /// Why a text isn't parsed.
-#[derive(Debug, Drop, Error)]
+#[derive(Clone, Copy, Debug, PartialEq, Eq, Drop, Error)]
 pub enum ParseFault {
     /// The text breaks this limit. `Bytes` goes before `Form`.
     #[error("limit {0:?}")]

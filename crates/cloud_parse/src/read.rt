@@ -175,10 +175,7 @@ fn declared_at<'a>(globals: &[Name], tokens: &'a [Token]) -> Option<(&'a Name, &
 }
 
 // The declarations up to the closing brace.
-fn globals_at(
-    alloc: Global,
-    tokens: &[Token],
-) -> Result<Option<(Sequence<Name>, &[Token])>, Memory>
+fn globals_at(alloc: Global, tokens: &[Token]) -> Result<Option<(Sequence<Name>, &[Token])>, Memory>
     ensures globals { IfOk result (λ found. option_map (λ found. (found.0, found.1.now)) found ≡ globals_at (length tokens.now) [] tokens.now) }
     ensures names { IfOk result (λ found. IfSome found (λ found. AllByRecursion IsName found.0)) }
 {
@@ -216,10 +213,7 @@ fn client_opening(tokens: &[Token]) -> Option<(&Name, &[Token])>
 }
 
 #[tactic(auto, unfolding(crate::specs::Reading::schema_at))]
-fn schema_at(
-    alloc: Global,
-    tokens: &[Token],
-) -> Result<Option<(Sequence<Name>, &[Token])>, Memory>
+fn schema_at(alloc: Global, tokens: &[Token]) -> Result<Option<(Sequence<Name>, &[Token])>, Memory>
     ensures globals { IfOk result (λ found. option_map (λ found. (found.0, found.1.now)) found ≡ schema_at tokens.now) }
     ensures names { IfOk result (λ found. IfSome found (λ found. AllByRecursion IsName found.0)) }
 {
