@@ -1,5 +1,5 @@
 -- The form of a source with one client over integer globals, and how it is written in tokens.
-use Rattle.std.specs.Prelude.{◌≡◌, ℕ, ◌+◌, ◌<◌, ◌≤◌, ◌^◌, Bool, true, false, List, [], ◌∷◌, ◌++◌, length, slice_index_or, Option, Some, None, option_map, pos, if◌then◌else◌, ℤ, neg_ℤ}
+use Rattle.std.specs.Prelude.{◌≡◌, ℕ, ◌+◌, ◌<◌, ◌≤◌, ◌^◌, Bool, true, false, List, [], ◌∷◌, ◌++◌, length, slice_index_or, Option, Some, None, option_map, pos, if◌then◌else◌, ℤ, neg_ℤ, codes, refl}
 use Rattle.std.specs.Str.{bytes_eq}
 use Rattle.std.specs.List.{AllByRecursion, flat_map}
 use Rattle.cloud_base.specs.Values.{IsName}
@@ -79,3 +79,12 @@ form_tokens f =
 pub record HasForm (text : List ℕ) (f : Form) : Type 0 where
   pub form : IsForm f
   pub written : tokens text ≡ Some (form_tokens f)
+
+pub example_place_of : place_of (codes "b") (codes "a" ∷ codes "b" ∷ codes "b" ∷ []) ≡ Some 1
+example_place_of = refl
+
+pub example_form_tokens : form_tokens (record { globals = codes "g" ∷ []; client = codes "a"; acts = Change 0 Add (record { minus = true; number = 2 }) ∷ Yield ∷ [] })
+    ≡ Fixed terminal.Schema ∷ Fixed terminal.OpenBrace ∷ Fixed terminal.Global ∷ Name (codes "g") ∷ Fixed terminal.Colon ∷ Fixed terminal.CInt ∷ Fixed terminal.Semicolon ∷ Fixed terminal.CloseBrace
+    ∷ Fixed terminal.Client ∷ Name (codes "a") ∷ Fixed terminal.OpenBrace ∷ Name (codes "g") ∷ Fixed terminal.Dot ∷ Fixed terminal.Add ∷ Fixed terminal.OpenParen ∷ Fixed terminal.Minus ∷ Number 2 ∷ Fixed terminal.CloseParen
+    ∷ Fixed terminal.Semicolon ∷ Fixed terminal.Yield ∷ Fixed terminal.Semicolon ∷ Fixed terminal.CloseBrace ∷ []
+example_form_tokens = refl

@@ -1,4 +1,5 @@
 pub mod Form
+pub mod Parse
 pub mod Reading
 pub mod Terminals
 pub mod Tokens

@@ -89,17 +89,20 @@ print_at globals tokens = do
 
 unfoldable pub act_at : List (List ℕ) → List Token → Reads Act
 act_at globals tokens = elim (behind terminal.Print tokens) [
-    Some rest ↦ print_at globals rest
+  | Some rest ↦ print_at globals rest
   | None ↦ elim (behind terminal.Yield tokens) [
-      Some rest ↦ option_map (λ rest. (Yield, rest)) (behind terminal.Semicolon rest)
-    | None ↦ change_at globals tokens ] ]
+    | Some rest ↦ option_map (λ rest. (Yield, rest)) (behind terminal.Semicolon rest)
+    | None ↦ change_at globals tokens
+  ]
+]
 
 -- acts up to the closing brace, fewer than so many
 unfoldable pub acts_at : ℕ → List (List ℕ) → List Token → Reads (List Act)
 acts_at zero globals tokens = None
 acts_at (suc n) globals tokens = elim (behind terminal.CloseBrace tokens) [
-    Some rest ↦ Some ([], rest)
-  | None ↦ act_at globals tokens >>= λ act. acts_at n globals act.1 >>= λ more. Some (act.0 ∷ more.0, more.1) ]
+  | Some rest ↦ Some ([], rest)
+  | None ↦ act_at globals tokens >>= λ act. acts_at n globals act.1 >>= λ more. Some (act.0 ∷ more.0, more.1)
+]
 
 -- a declaration of a global that isn't there yet
 unfoldable pub declared_at : List (List ℕ) → List Token → Reads (List ℕ)
@@ -115,8 +118,9 @@ declared_at globals tokens = do
 unfoldable pub globals_at : ℕ → List (List ℕ) → List Token → Reads (List (List ℕ))
 globals_at zero globals tokens = None
 globals_at (suc n) globals tokens = elim (behind terminal.CloseBrace tokens) [
-    Some rest ↦ Some (globals, rest)
-  | None ↦ declared_at globals tokens >>= λ more. globals_at n (globals ++ more.0 ∷ []) more.1 ]
+  | Some rest ↦ Some (globals, rest)
+  | None ↦ declared_at globals tokens >>= λ more. globals_at n (globals ++ more.0 ∷ []) more.1
+]
 
 unfoldable pub schema_opening : List Token → Option (List Token)
 schema_opening tokens = do

@@ -1,11 +1,12 @@
 -- Tokens of a text.
-use Rattle.std.specs.Prelude.{◌≡◌, ℕ, zero, suc, ◌+◌, ◌-◌, ◌*◌, ◌^◌, min, Bool, true, false, not, ◌==◌, ◌||◌, if◌then◌else◌, List, [], ◌∷◌, length, take_while, fold, find, slice_index, nat_eq, codes, Option, Some, None, option_map, refl}
+use Rattle.std.specs.Prelude.{◌≡◌, ℕ, zero, suc, ◌+◌, ◌-◌, ◌*◌, ◌^◌, min, Bool, true, false, not, ◌==◌, ◌||◌, if◌then◌else◌, List, [], ◌∷◌, ◌++◌, length, take_while, fold, find, slice_index, nat_eq, codes, Option, Some, None, option_map, refl}
 use Rattle.std.specs.List.{starts_with}
 use Rattle.std.specs.Option.{option_map_or}
 use Rattle.std.specs.Str.{bytes_eq}
 use Rattle.cloud_base.specs.Values.{is_letter, is_digit, is_name_byte}
 use Rattle.cloud_parse.specs.Terminals.{terminal_text}
 use Rattle.cloud_parse.specs.declared.terminal.Terminal.{Terminal}
+use Rattle.cloud_parse.specs.declared.terminal.Terminal.TheVariants as terminal
 use Rattle.cloud_parse.specs.declared.terminal.TheConstants.{WORDS, SYMBOLS}
 use Rattle.cloud_parse.specs.declared.token.Lexeme.{Lexeme}
 use Rattle.cloud_parse.specs.declared.token.Token.{Token}
@@ -70,3 +71,11 @@ tokens_behind zero (b ∷ bytes) = elim (lexeme_at (b ∷ bytes)) [ None ↦ Non
 -- the tokens of a text
 abbrev pub tokens : List ℕ → Option (List Token)
 tokens text = tokens_behind 0 text
+
+pub example_tokens : tokens (codes "// yield" ++ (10 ∷ codes "print\tx_1 007<=18446744073709551616;")) ≡ Some (Fixed terminal.Print ∷ Name (codes "x_1") ∷ Number 7 ∷ Fixed terminal.LessOrEqual ∷ Number (2 ^ 64 - 1) ∷ Fixed terminal.Semicolon ∷ [])
+unfolding tokens_behind lexeme_at
+example_tokens = refl
+
+pub example_no_tokens : tokens (codes "print !") ≡ None
+unfolding tokens_behind lexeme_at
+example_no_tokens = refl

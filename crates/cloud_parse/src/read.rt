@@ -2,12 +2,12 @@
 ghost use Rattle.std.specs.Prelude.{◌≡◌, [], ◌∷◌, ◌++◌, ◌^◌, ◌<◌, ◌≤◌, length, option_map, IfOk, IfSome, MatchOption};
 ghost use Rattle.std.specs.List.{AllByRecursion};
 ghost use Rattle.cloud_base.specs.Values.{IsName};
-ghost use Rattle.cloud_parse.specs.Form.{place_of, most_globals};
+ghost use Rattle.cloud_parse.specs.Form.{IsForm, place_of, most_globals};
 ghost use Rattle.cloud_parse.specs.Reading.{behind, name_at, number_at, amount_at, operation_at, global_at, change_at, print_at, act_at, acts_at, declared_at, globals_at, schema_opening, schema_at, client_opening, body_at, form_at};
 
 use crate::terminal::Terminal;
 use crate::token::Token;
-use crate::tree::{Act, Amount, MOST_GLOBALS, Operation};
+use crate::tree::{Act, Amount, MOST_GLOBALS, Operation, Tree};
 use cloud_base::{Memory, Name, Sequence};
 use std::alloc::Global;
 
@@ -134,7 +134,7 @@ fn act_at<'a>(globals: &[Name], tokens: &'a [Token]) -> Option<(Act, &'a [Token]
 
 // The acts up to the closing brace.
 #[tactic(auto, unfolding(crate::specs::Reading::body_at))]
-pub fn body_at<'a>(
+fn body_at<'a>(
     alloc: Global,
     globals: &[Name],
     tokens: &'a [Token],
@@ -175,10 +175,7 @@ fn declared_at<'a>(globals: &[Name], tokens: &'a [Token]) -> Option<(&'a Name, &
 }
 
 // The declarations up to the closing brace.
-fn globals_at(
-    alloc: Global,
-    tokens: &[Token],
-) -> Result<Option<(Sequence<Name>, &[Token])>, Memory>
+fn globals_at(alloc: Global, tokens: &[Token]) -> Result<Option<(Sequence<Name>, &[Token])>, Memory>
     ensures globals { IfOk result (λ found. option_map (λ found. (found.0, found.1.now)) found ≡ globals_at (length tokens.now) [] tokens.now) }
     ensures names { IfOk result (λ found. IfSome found (λ found. AllByRecursion IsName found.0)) }
 {
@@ -206,7 +203,7 @@ fn schema_opening(tokens: &[Token]) -> Option<&[Token]>
 }
 
 #[tactic(auto, unfolding(crate::specs::Reading::client_opening))]
-pub fn client_opening(tokens: &[Token]) -> Option<(&Name, &[Token])>
+fn client_opening(tokens: &[Token]) -> Option<(&Name, &[Token])>
     ensures { option_map (λ found. (found.0.now, found.1.now)) result ≡ client_opening tokens.now }
 {
     let rest = behind(tokens, Terminal::Client)?;
@@ -216,10 +213,7 @@ pub fn client_opening(tokens: &[Token]) -> Option<(&Name, &[Token])>
 }
 
 #[tactic(auto, unfolding(crate::specs::Reading::schema_at))]
-pub fn schema_at(
-    alloc: Global,
-    tokens: &[Token],
-) -> Result<Option<(Sequence<Name>, &[Token])>, Memory>
+fn schema_at(alloc: Global, tokens: &[Token]) -> Result<Option<(Sequence<Name>, &[Token])>, Memory>
     ensures globals { IfOk result (λ found. option_map (λ found. (found.0, found.1.now)) found ≡ schema_at tokens.now) }
     ensures names { IfOk result (λ found. IfSome found (λ found. AllByRecursion IsName found.0)) }
 {
@@ -227,4 +221,26 @@ pub fn schema_at(
         Some(rest) => globals_at(alloc, rest),
         None => Ok(None),
     }
+}
+
+// The tree of these tokens, where they are those of one.
+#[tactic(auto, unfolding(crate::specs::Reading::form_at))]
+pub(crate) fn read(alloc: Global, tokens: &[Token]) -> Result<Option<Tree>, Memory>
+    ensures tree { IfOk result (λ found. found ≡ form_at tokens.now) }
+    ensures form { IfOk result (λ found. IfSome found IsForm) }
+{
+    let Some((globals, rest)) = schema_at(alloc, tokens)? else {
+        return Ok(None);
+    };
+    let Some((client, rest)) = client_opening(rest) else {
+        return Ok(None);
+    };
+    let client = client.copy(alloc)?;
+    let Some((acts, rest)) = body_at(alloc, globals.as_slice(), rest)? else {
+        return Ok(None);
+    };
+    if !rest.is_empty() {
+        return Ok(None);
+    }
+    Ok(Some(Tree::new(globals, client, acts)))
 }

@@ -102,20 +102,28 @@ fn number_value(digits: &[u8]) -> u64
     ensures { result ≡ number_value digits.now }
 {
     digits.iter().fold(0u64, |value, digit| {
-        value.saturating_mul(10).saturating_add(u64::from(digit.saturating_sub(b'0')))
+        value
+            .saturating_mul(10)
+            .saturating_add(u64::from(digit.saturating_sub(b'0')))
     })
 }
 
 fn reserved(word: &[u8]) -> Option<Terminal>
     ensures { result ≡ reserved word.now }
 {
-    WORDS.iter().copied().find(|terminal| terminal.text().as_bytes() == word)
+    WORDS
+        .iter()
+        .copied()
+        .find(|terminal| terminal.text().as_bytes() == word)
 }
 
 fn symbol_at(text: &[u8]) -> Option<Terminal>
     ensures { result ≡ symbol_at text.now }
 {
-    SYMBOLS.iter().copied().find(|terminal| text.starts_with(terminal.text().as_bytes()))
+    SYMBOLS
+        .iter()
+        .copied()
+        .find(|terminal| text.starts_with(terminal.text().as_bytes()))
 }
 
 // The word at the front: letters and digits as long as they go on.

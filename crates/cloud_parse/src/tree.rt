@@ -62,7 +62,8 @@ impl Model for Tree {
 impl Tree {
     pub fn new(globals: Sequence<Name>, client: Name, acts: Sequence<Act>) -> Tree
         requires { IsForm record { globals = globals; client = client; acts = acts } }
-        ensures { result ≡ record { globals = globals; client = client; acts = acts } }
+        ensures form { IsForm result }
+        ensures tree { result ≡ record { globals = globals; client = client; acts = acts } }
     {
         Tree {
             globals,

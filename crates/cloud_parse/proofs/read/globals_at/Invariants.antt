@@ -8,5 +8,5 @@ use Rattle.cloud_parse.proofs.read.globals_at.Given as goal
 abbrev pub invariant-loop-turn : goal.invariant-loop-turn
 invariant-loop-turn l = record {
   globals : globals_at (length l.tokens - l._turn) l.globals l.rest ≡ globals_at (length l.tokens) [] l.tokens;
-  names : AllByRecursion IsName l.globals
+  names : AllByRecursion IsName l.globals;
 }
