@@ -60,7 +60,7 @@ impl Model for Tree {
 }
 
 impl Tree {
-    pub fn new(globals: Sequence<Name>, client: Name, acts: Sequence<Act>) -> Tree
+    pub(crate) fn new(globals: Sequence<Name>, client: Name, acts: Sequence<Act>) -> Tree
         requires { IsForm record { globals = globals; client = client; acts = acts } }
         ensures form { IsForm result }
         ensures tree { result ≡ record { globals = globals; client = client; acts = acts } }
