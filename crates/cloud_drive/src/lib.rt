@@ -1,4 +1,5 @@
 // Playing a program of one client.
 #![tactic(auto)]
 
-mod globals;
+mod act;
+mod player;

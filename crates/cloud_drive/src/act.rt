@@ -1,0 +1,132 @@
+// What the player does at an act.
+ghost use Rattle.std.specs.Prelude.{◌≡◌, ℕ, ◌+◌, ◌^◌, ◌<◌, ◌≤◌, List, [], ◌∷◌, ◌++◌, length, if◌then◌else◌, Option, Some, None, option_map, unwrap_or, IfOk, IfSome, OnOk};
+ghost use Rattle.std.specs.Option.{ForSome};
+ghost use Rattle.cloud_base.specs.declared.update.Update.{Update};
+ghost use Rattle.cloud_parse.specs.Form.{Form, ActFits};
+ghost use Rattle.revision_diagram.specs.declared.step.Step.TheVariants.{Fork};
+ghost use Rattle.one_client.specs.Program.{schema_of, change_of};
+ghost use Rattle.one_client.specs.Steps.{Run, first_run, pull};
+ghost use Rattle.global_cells.specs.Cells.{CellsStand, to_change};
+ghost use Rattle.cloud_drive.specs.Play.{Follows, act_steps, after_act};
+
+use crate::player::{Player, Received};
+use cloud_base::{Answer, CellChange, Keys, Memory, Query, Sequence, Update};
+use cloud_parse::{Act, Amount, Operation};
+use fj_core::IntChange;
+use global_cells::{Globals, answers_are_plain};
+use revision_diagram::{Step, StepList};
+use std::alloc::Global;
+
+// A client of so many globals: a fork of the server gave its first revision.
+pub fn start(alloc: Global, count: usize) -> Result<Player, Memory>
+    ensures follows { IfOk result (λ player. Follows player count first_run) }
+    ensures steps { IfOk result (λ player. player.steps ≡ Fork 0 0 ∷ []) }
+    ensures next { IfOk result (λ player. player.next ≡ 2) }
+{
+    let mut steps = Sequence::new(alloc);
+    steps.push(Step::Fork(0, 0))?;
+    let server = Globals::new(alloc, count)?;
+    let current = server.fork(alloc)?;
+    Ok(Player {
+        server,
+        current,
+        received: None,
+        standing: 1,
+        next: 2,
+        steps,
+    })
+}
+
+fn int_change(operation: Operation, amount: Amount) -> IntChange
+    requires { amount.number < 2 ^ 63 }
+    ensures { to_change result ≡ change_of operation amount }
+{
+    match operation {
+        Operation::Add => IntChange::Add(amount.value()),
+        Operation::Set => IntChange::Set(amount.value()),
+    }
+}
+
+fn cell_change(change: IntChange) -> CellChange
+    ensures { result ≡ to_change change }
+{
+    match change {
+        IntChange::Add(number) => CellChange::Add(number),
+        IntChange::Set(number) => CellChange::SetInt(number),
+    }
+}
+
+fn change(player: Player, global: u16, operation: Operation, amount: Amount) -> Result<Player, Memory>
+    requires { ActFits (length player.current) (Act.Change global operation amount) }
+    ensures run { IfOk result (λ after. (f : Form) (count : ℕ) (run : Run) (further : Bool) → Follows player count run
+        → Follows after count (after_act run (Act.Change global operation amount) further)
+        × (after.steps ≡ player.steps ++ act_steps (schema_of f) run (Act.Change global operation amount) further)) }
+    ensures next { IfOk result (λ after. after.next ≡ player.next) }
+{
+    let Player { server, mut current, received, standing, next, mut steps } = player;
+    let change = int_change(operation, amount);
+    let update = Update::Cell(global, Keys::empty(), cell_change(change));
+    steps.push(Step::Do(standing, update))?;
+    current.update(global, &change);
+    Ok(Player { server, current, received, standing, next, steps })
+}
+
+fn print(player: Player, global: u16) -> Result<Player, Memory>
+    requires { global < length player.current }
+    ensures run { IfOk result (λ after. (f : Form) (count : ℕ) (run : Run) (further : Bool) → Follows player count run
+        → Follows after count (after_act run (Act.Print global) further)
+        × (after.steps ≡ player.steps ++ act_steps (schema_of f) run (Act.Print global) further)) }
+    ensures next { IfOk result (λ after. after.next ≡ player.next) }
+{
+    answers_are_plain();
+    let Player { server, current, received, standing, next, mut steps } = player;
+    let value = current.ask(global);
+    steps.push(Step::Ask(standing, Query::Get(global, Keys::empty()), Answer::Int(value)))?;
+    steps.push(Step::Say(standing, Answer::Int(value)))?;
+    Ok(Player { server, current, received, standing, next, steps })
+}
+
+// The revision that has all that the client did and got: the received one, if there is one, with the
+// standing one joined into it.
+fn pulled(
+    received: Option<Received>,
+    standing: u32,
+    current: Globals,
+    steps: &mut StepList,
+) -> Result<Received, Memory>
+    requires { ForSome received (λ r. length current ≡ length r.globals) }
+    ensures steps { OnOk result (steps.new ≡ steps.old ++ pull standing (option_map (λ r. r.revision) received)) }
+    ensures revision { IfOk result (λ p. p.revision ≡ unwrap_or (option_map (λ r. r.revision) received) standing) }
+    ensures count { IfOk result (λ p. length p.globals ≡ length current) }
+    ensures stands { IfOk result (λ p. (pushed since : List Update) → CellsStand current pushed since → IfSome received (λ r. CellsStand r.globals pushed []) → CellsStand p.globals pushed since) }
+{
+    match received {
+        Some(Received { revision, mut globals }) => {
+            steps.push(Step::Join(revision, standing))?;
+            globals.join(&current);
+            Ok(Received { revision, globals })
+        }
+        None => Ok(Received { revision: standing, globals: current }),
+    }
+}
+
+// What the server gives for the next yield, where there is one.
+fn receive(
+    alloc: Global,
+    server: &Globals,
+    further: bool,
+    revision: u32,
+    steps: &mut StepList,
+) -> Result<Option<Received>, Memory>
+    ensures steps { OnOk result (steps.new ≡ steps.old ++ (if further then Fork 0 0 ∷ [] else [])) }
+    ensures revision { IfOk result (λ r. option_map (λ r. r.revision) r ≡ (if further then Some revision else None)) }
+    ensures count { IfOk result (λ r. IfSome r (λ r. length r.globals ≡ length server.now)) }
+    ensures stands { IfOk result (λ r. IfSome r (λ r. (log : List Update) → CellsStand server.now [] log → CellsStand r.globals log [])) }
+{
+    if !further {
+        return Ok(None);
+    }
+    steps.push(Step::Fork(0, 0))?;
+    let globals = server.fork(alloc)?;
+    Ok(Some(Received { revision, globals }))
+}
