@@ -7,6 +7,8 @@ ghost use Rattle.cloud_base.specs.Answer.{answer};
 mod cells;
 mod ids;
 mod listing;
+#[cfg(test)]
+mod tests;
 
 use cloud_base::{Answer, Memory, Query, Schema, Update};
 use std::alloc::Global;
