@@ -4,20 +4,26 @@ ghost use Rattle.cloud_base.specs.Values.{IsName};
 
 use crate::answer;
 use cloud_base::{
-    Answer, CellChange, CellType, Entity, Key, KeyType, Keys, Memory, Name, Owner, Property, Query, Schema,
-    Sequence, Text, Uid, Update,
+    Answer, CellChange, CellType, Entity, Key, KeyType, Keys, Memory, Name, Owner, Property, Query,
+    Schema, Sequence, Text, Uid, Update,
 };
 use std::alloc::Global;
 use std::test::Fail;
 
 const TOTAL: u16 = 0;
+
 const GROCERY: u16 = 1;
+
 const SEAT: u16 = 2;
+
 const NOTE: u16 = 3;
+
 const SPENT: u16 = 4;
 
 const CUSTOMER: u16 = 0;
+
 const ORDER: u16 = 1;
+
 const LINE: u16 = 2;
 
 fn property(
@@ -56,7 +62,13 @@ fn shop(alloc: Global) -> Result<Schema, Memory> {
     properties.push(property(alloc, "who", seat, CellType::Text, &[KeyType::Int])?)?;
     properties.push(property(alloc, "n", note, CellType::Int, &[KeyType::Id(ORDER)])?)?;
     let owner = Owner::Entity(CUSTOMER);
-    properties.push(property(alloc, "spent", owner, CellType::Int, &[KeyType::Id(CUSTOMER)])?)?;
+    properties.push(property(
+        alloc,
+        "spent",
+        owner,
+        CellType::Int,
+        &[KeyType::Id(CUSTOMER)],
+    )?)?;
     let mut entities = Sequence::new(alloc);
     entities.push(entity(alloc, "Customer", &[])?)?;
     entities.push(entity(alloc, "Order", &[KeyType::Id(CUSTOMER)])?)?;
@@ -163,9 +175,15 @@ fn cells(alloc: Global) -> Result<Vec<Row>, Memory> {
     cases.push(case(log, seat, Answer::Text(text(b"bob"))))?;
 
     let whole = Query::Get(TOTAL, Keys::empty());
-    let up = vec![in alloc; total(CellChange::SetInt(i64::MAX)), total(CellChange::Add(1))]?;
+    let up = vec![in alloc;
+        total(CellChange::SetInt(i64::MAX)),
+        total(CellChange::Add(1)),
+    ]?;
     cases.push(case(up, whole.copied(), Answer::Int(i64::MIN)))?;
-    let down = vec![in alloc; total(CellChange::SetInt(i64::MIN)), total(CellChange::Add(-1))]?;
+    let down = vec![in alloc;
+        total(CellChange::SetInt(i64::MIN)),
+        total(CellChange::Add(-1)),
+    ]?;
     cases.push(case(down, whole, Answer::Int(i64::MAX)))?;
 
     let cancelled = vec![in alloc; buy(b"milk", 2), buy(b"eggs", 1), buy(b"milk", -2)]?;
@@ -187,14 +205,26 @@ fn entities(alloc: Global) -> Result<Vec<Row>, Memory> {
     let mut dead = copy(alloc, &alive)?;
     dead.push(Update::Delete(id(0)))?;
     let mut cases = Vec::new(alloc);
-    cases.push(case(copy(alloc, &alive)?, Query::Get(NOTE, of(1)), Answer::Int(6)))?;
+    cases.push(case(
+        copy(alloc, &alive)?,
+        Query::Get(NOTE, of(1)),
+        Answer::Int(6),
+    ))?;
     cases.push(case(copy(alloc, &alive)?, Query::All(LINE), ids(alloc, &[2])?))?;
     let listed = tuples(vec![in alloc; of(0)]?);
     cases.push(case(alive, Query::Entries(SPENT), listed))?;
     cases.push(case(copy(alloc, &dead)?, Query::Get(NOTE, of(1)), Answer::Int(0)))?;
-    cases.push(case(copy(alloc, &dead)?, Query::Entries(NOTE), tuples(Vec::new(alloc))))?;
+    cases.push(case(
+        copy(alloc, &dead)?,
+        Query::Entries(NOTE),
+        tuples(Vec::new(alloc)),
+    ))?;
     cases.push(case(copy(alloc, &dead)?, Query::All(LINE), ids(alloc, &[])?))?;
-    cases.push(case(copy(alloc, &dead)?, Query::Alive(id(2)), Answer::Truth(false)))?;
+    cases.push(case(
+        copy(alloc, &dead)?,
+        Query::Alive(id(2)),
+        Answer::Truth(false),
+    ))?;
     cases.push(case(dead, Query::Alive(id(3)), Answer::Truth(false)))?;
     Ok(cases)
 }
