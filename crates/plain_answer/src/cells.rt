@@ -8,7 +8,9 @@ ghost use Rattle.cloud_base.specs.Answer.{cell_value, is_entry};
 ghost use Rattle.cloud_base.specs.declared.update.CellChange.{CellChange};
 
 use crate::ids::has_dead;
-use cloud_base::{Answer, CellChange, CellType, Keys, Schema, Text, Update, log_parts, plain_steps};
+use cloud_base::{
+    Answer, CellChange, CellType, Keys, Schema, Text, Update, log_parts, plain_steps,
+};
 
 fn same_keys(one: &Keys, other: &Keys) -> bool
     ensures { result ≡ same_keys one.now other.now }

@@ -12,7 +12,12 @@ use cloud_base::{IdList, Keys, Memory, Schema, Sequence, TupleList, Uid, Update,
 use std::alloc::Global;
 use std::collections::BTreeSet;
 
-fn put_created(ids: &mut BTreeSet<Uid>, log: &[Update], entity: u16, update: &Update) -> Result<(), Memory>
+fn put_created(
+    ids: &mut BTreeSet<Uid>,
+    log: &[Update],
+    entity: u16,
+    update: &Update,
+) -> Result<(), Memory>
     ensures { OnOk result (ids.new.keys ≡ fold (insert_key id_order) ids.old.keys (filter (is_listed log.now entity) (created (update.now ∷ [])))) }
 {
     if let Update::Create(id, _, _) = update {
@@ -56,7 +61,12 @@ fn put_touched(
 /// The key lists of the property's cells, no key of which is dead and whose value isn't the default,
 /// ascending.
 #[tactic(auto, unfolding(cloud_base::specs::Answer::entries))]
-pub fn entries(alloc: Global, schema: &Schema, log: &[Update], property: u16) -> Result<TupleList, Memory>
+pub fn entries(
+    alloc: Global,
+    schema: &Schema,
+    log: &[Update],
+    property: u16,
+) -> Result<TupleList, Memory>
     ensures { IfOk result (λ tuples. tuples ≡ entries schema.now log.now property) }
 {
     log_parts();

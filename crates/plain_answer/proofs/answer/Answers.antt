@@ -7,8 +7,8 @@ use Rattle.plain_answer.proofs.answer.Goals.{in-Get, in-All+in_ok-all_ids-in-All
 pub returns : goal.returns
 unfolding answer
 returns c = elim c.match-query.branch [
-    in-Get w ↦ grind (arith, common_steps)
+  | in-Get w ↦ grind (arith, common_steps)
   | in-All+in_ok-all_ids-in-All w ↦ grind (arith, common_steps)
   | in-Entries+in_ok-entries-in-Entries w ↦ grind (arith, common_steps)
   | in-Alive w ↦ grind (arith, common_steps)
-  ]
+]

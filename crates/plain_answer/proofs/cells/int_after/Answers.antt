@@ -11,7 +11,7 @@ returns-in-Add c =
     let n = c.in-Add.number in
     let fits : FitsSigned w64 c.in-Add.number = search rules in
     λ changes e.
-      wrapping_add_is w64 c.args.value n c.ranges.value fits
-        ∙ ap (λ v. int_wrap w64 (v +ℤ n)) e
-        ∙ sym (c.plain_steps.ensures.add changes n)
-        ∙ ap (λ (ch : CellChange). plain_int (changes ++ ch ∷ [])) (sym c.in-Add.is)
+    wrapping_add_is w64 c.args.value n c.ranges.value fits
+    ∙ ap (λ v. int_wrap w64 (v +ℤ n)) e
+    ∙ sym (c.plain_steps.ensures.add changes n)
+    ∙ ap (λ (ch : CellChange). plain_int (changes ++ ch ∷ [])) (sym c.in-Add.is)
