@@ -74,8 +74,8 @@ fn groceries(alloc: Global) -> Result<Schema, Fail> {
     let mut keys = Sequence::new(alloc);
     keys.push(KeyType::Text)?;
     let property = Property {
-        name: Name::new(alloc, "quantity")?,
-        owner: Owner::Array(Name::new(alloc, "Grocery")?),
+        name: Name::new(alloc, b"quantity")?,
+        owner: Owner::Array(Name::new(alloc, b"Grocery")?),
         cell: CellType::Int,
         keys,
     };
@@ -91,9 +91,9 @@ fn tuples(alloc: Global, one: Keys) -> Result<Sequence<Keys>, Fail> {
 fn grocery_list(alloc: Global) -> Result<Vec<u8>, Fail> {
     let schema = groceries(alloc)?;
     let names = [
-        Name::new(alloc, "ann")?,
-        Name::new(alloc, "bob")?,
-        Name::new(alloc, "cy")?,
+        Name::new(alloc, b"ann")?,
+        Name::new(alloc, b"bob")?,
+        Name::new(alloc, b"cy")?,
     ];
     let mut both = tuples(alloc, of_text("eggs"))?;
     both.push(of_text("milk"))?;
@@ -188,15 +188,15 @@ fn orders(alloc: Global) -> Result<Schema, Fail> {
     order_keys.push(KeyType::Id(0))?;
     let mut entities = Sequence::new(alloc);
     entities.push(Entity {
-        name: Name::new(alloc, "Customer")?,
+        name: Name::new(alloc, b"Customer")?,
         keys: Sequence::new(alloc),
     })?;
     entities.push(Entity {
-        name: Name::new(alloc, "Order")?,
+        name: Name::new(alloc, b"Order")?,
         keys: order_keys,
     })?;
-    let owner = Owner::Array(Name::new(alloc, "Note")?);
-    let name = Name::new(alloc, "n")?;
+    let owner = Owner::Array(Name::new(alloc, b"Note")?);
+    let name = Name::new(alloc, b"n")?;
     schema_of(
         alloc,
         Property {
@@ -217,7 +217,7 @@ fn of_id(serial: u32) -> Keys {
 
 fn deletion(alloc: Global) -> Result<Vec<u8>, Fail> {
     let schema = orders(alloc)?;
-    let names = [Name::new(alloc, "a")?, Name::new(alloc, "b")?];
+    let names = [Name::new(alloc, b"a")?, Name::new(alloc, b"b")?];
     let mut ids = Sequence::new(alloc);
     ids.push(Uid::new(0, 1))?;
     let steps = [
