@@ -2,6 +2,8 @@
 #![tactic(auto)]
 
 mod laws;
+mod past;
+mod path;
 mod step;
 
 pub use laws::{
@@ -9,4 +11,5 @@ pub use laws::{
     meeting_step, once_step, revisions_are_there, right_step, say_draws, step_draws, step_keeps,
     story_step,
 };
+pub use path::{log_of, path_of, PlaceList, UpdateList};
 pub use step::{EndList, Step, StepList};
