@@ -1,5 +1,5 @@
 -- What a table of rows tells, of which the last row of a revision counts.
-use Rattle.std.specs.Prelude.{◌≡◌, ℕ, ◌+◌, ◌<◌, Bool, false, List, [], ◌∷◌, ◌++◌, length, slice_index_or, IsTrue}
+use Rattle.std.specs.Prelude.{◌≡◌, ℕ, ◌<◌, Bool, false, List, [], ◌∷◌, slice_index_or}
 use Rattle.revision_diagram.specs.declared.path.PathRow.{PathRow}
 use Rattle.revision_diagram.specs.declared.past.PastRow.{PastRow}
 use Rattle.revision_diagram.specs.Diagram.{Diagram, put}
@@ -33,6 +33,10 @@ pasts_from pasts (row ∷ rows) = pasts_from (put row.revision row.past.items pa
 abbrev pub past_in : List PastRow → ℕ → List Bool
 past_in rows r = pasts_from (λ x. []) rows r
 
--- the rows tell the pasts of the diagram
-abbrev pub ShowsPasts : List PastRow → Diagram → Type 0
-ShowsPasts rows d = (r i : ℕ) → slice_index_or (past_in rows r) i false ≡ d.past r i
+-- the rows tell these pasts
+abbrev pub TellsPasts : List PastRow → (ℕ → ℕ → Bool) → Type 0
+TellsPasts rows pasts = (r i : ℕ) → slice_index_or (past_in rows r) i false ≡ pasts r i
+
+-- the past has no place above this one
+abbrev pub IsUpTo : ℕ → (ℕ → Bool) → Type 0
+IsUpTo place past = (i : ℕ) → place < i → past i ≡ false

@@ -11,5 +11,6 @@ pub use laws::{
     meeting_step, once_step, revisions_are_there, right_step, say_draws, step_draws, step_keeps,
     story_step,
 };
-pub use path::{log_of, path_of, PlaceList, UpdateList};
+pub use past::past_of;
+pub use path::{PlaceList, UpdateList, log_of, path_of};
 pub use step::{EndList, Step, StepList};

@@ -1,8 +1,9 @@
 // The path and the log of a revision, from the steps alone: a plain and slow program.
-ghost use Rattle.std.specs.Prelude.{◌≡◌, ℕ, ◌+◌, ◌<◌, ◌≤◌, ◌^◌, List, [], ◌∷◌, ◌++◌, length, drop, IfOk};
+ghost use Rattle.std.specs.Prelude.{◌≡◌, ℕ, ◌+◌, ◌<◌, ◌≤◌, ◌^◌, List, [], ◌∷◌, ◌++◌, length, drop, slice_get, IfOk, OnOk};
+ghost use Rattle.std.specs.List.{cons_option};
 ghost use Rattle.std.specs.Option.{option_to_list};
 ghost use Rattle.revision_diagram.specs.Diagram.{Diagram, diagram, after, path};
-ghost use Rattle.revision_diagram.specs.Right.{log};
+ghost use Rattle.revision_diagram.specs.Right.{update_of, log};
 ghost use Rattle.revision_diagram.specs.Rows.{path_in, fork_length_in, ShowsPaths};
 
 use crate::step::Step;
@@ -57,11 +58,21 @@ fn joined(alloc: Global, first: &[usize], second: &[usize]) -> Result<Vec<usize>
 fn past_length(path: &[usize], length: usize) -> &[usize]
     ensures { result.now ≡ drop length path.now }
 {
-    if length < path.len() { &path[length..] } else { &[] }
+    if length < path.len() {
+        &path[length..]
+    } else {
+        &[]
+    }
 }
 
 /// The row that a step adds, if it changes a path.
-fn row_after(alloc: Global, rows: &[PathRow], forks: usize, place: usize, step: &Step) -> Result<Option<PathRow>, Memory>
+fn row_after(
+    alloc: Global,
+    rows: &[PathRow],
+    forks: usize,
+    place: usize,
+    step: &Step,
+) -> Result<Option<PathRow>, Memory>
     requires { forks + 1 < 2 ^ 64 }
     ensures { (d : Diagram) → ShowsPaths rows.now d → d.places ≡ place → d.revisions ≡ forks + 1 → IfOk result (λ row. ShowsPaths (rows.now ++ option_to_list row) (after d step.now)) }
 {
@@ -97,7 +108,7 @@ fn row_after(alloc: Global, rows: &[PathRow], forks: usize, place: usize, step: 
 }
 
 /// The number of forks with this step.
-fn forks_after(forks: usize, step: &Step) -> usize
+pub(crate) fn forks_after(forks: usize, step: &Step) -> usize
     requires { forks + 1 < 2 ^ 64 }
     ensures bound { result ≤ forks + 1 }
     ensures forks { (d : Diagram) → d.revisions ≡ forks + 1 → (after d step.now).revisions ≡ result + 1 }
@@ -132,6 +143,27 @@ pub fn path_of(alloc: Global, steps: &[Step], revision: u32) -> Result<PlaceList
     Ok(Sequence::from_vec(path))
 }
 
+fn update_in(step: &Step) -> Option<Update>
+    ensures { result ≡ update_of (Some step.now) }
+{
+    match step {
+        Step::Do(_, update) => Some(update.copied()),
+        _ => None,
+    }
+}
+
+fn push_update(updates: &mut UpdateList, steps: &[Step], place: usize) -> Result<(), Memory>
+    ensures { OnOk result (updates.new ≡ updates.old ++ cons_option (update_of (slice_get steps.now place)) []) }
+{
+    let Some(step) = steps.get(place) else {
+        return Ok(());
+    };
+    match update_in(step) {
+        Some(update) => updates.push(update),
+        None => Ok(()),
+    }
+}
+
 /// The updates on the path of a revision, in order.
 pub fn log_of(alloc: Global, steps: &[Step], revision: u32) -> Result<UpdateList, Memory>
     ensures { IfOk result (λ updates. updates ≡ log steps.now revision) }
@@ -139,9 +171,7 @@ pub fn log_of(alloc: Global, steps: &[Step], revision: u32) -> Result<UpdateList
     let path = path_of(alloc, steps, revision)?;
     let mut updates = Sequence::new(alloc);
     for place in path.as_slice() {
-        if let Some(Step::Do(_, update)) = steps.get(*place) {
-            updates.push(update.copied())?;
-        }
+        push_update(&mut updates, steps, *place)?;
     }
     Ok(updates)
 }

@@ -7,5 +7,5 @@ abbrev pub invariant-loop-place : goal.invariant-loop-place
 invariant-loop-place l = record {
   shows : ShowsPaths l.rows.items (diagram (take l.place l.steps));
   forks : revisions (take l.place l.steps) ≡ l.forks + 1;
-  bound : l.forks ≤ l.place
+  bound : l.forks ≤ l.place;
 }

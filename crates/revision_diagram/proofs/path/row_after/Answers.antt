@@ -1,5 +1,4 @@
-use Rattle.std.proofs.Common.{arith, rules, sym, ap, refl, ◌∙◌}
-use Rattle.std.proofs.lemmas.Grind.{common_steps}
+use Rattle.std.proofs.Common.{rules, sym, refl}
 use Rattle.revision_diagram.proofs.Rows.{shows_Fork, shows_Join, shows_Do}
 use Rattle.revision_diagram.proofs.path.row_after.Goals as goal
 
