@@ -10,3 +10,4 @@ pub mod KeepsOnce
 pub mod Places
 pub mod Stories
 pub mod Kept
+pub mod Rows

@@ -4,3 +4,4 @@ pub mod Right
 pub mod Once
 pub mod Story
 pub mod Meeting
+pub mod Rows

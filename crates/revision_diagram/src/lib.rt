@@ -2,6 +2,8 @@
 #![tactic(auto)]
 
 mod laws;
+mod past;
+mod path;
 mod step;
 
 pub use laws::{
@@ -9,4 +11,6 @@ pub use laws::{
     meeting_step, once_step, revisions_are_there, right_step, say_draws, step_draws, step_keeps,
     story_step,
 };
+pub use past::past_of;
+pub use path::{PlaceList, UpdateList, log_of, path_of};
 pub use step::{EndList, Step, StepList};

@@ -1,0 +1,13 @@
+use Rattle.revision_diagram.proofs.Rows.{path_in-here, path_in-else}
+use Rattle.revision_diagram.proofs.path.latest_path.Goals as goal
+use Rattle.revision_diagram.proofs.path.latest_path.Goals.{then-row-revision, else-row-revision}
+
+pub loop-row-preserved : goal.loop-row-preserved
+loop-row-preserved c =
+    let rows = c.args.rows.now in
+    let i = c.loop-row.row-index in
+    let x = c.args.revision in
+    elim c.if-row-revision.branch [
+      | then-row-revision w ↦ let e = path_in-here rows i c.row-item.result x c.loop-row-test.true c.row-item.is w.if-row-revision.true in cc (e, w.found-is, w.as_slice-found.ensures.value)
+      | else-row-revision w ↦ let e = path_in-else rows i c.row-item.result x c.loop-row-test.true c.row-item.is w.if-row-revision.false in cc (e, w.found-is)
+    ]
