@@ -1,31 +1,29 @@
 -- What an answer depends on, and which lists it has.
-use Rattle.std.proofs.Common.{◌≡◌, refl, sym, ◌∙◌, ap, subst, ℕ, Bool, true, false, not, ◌&&◌, ◌||◌, cond, List, [], ◌∷◌, ◌++◌, inl, inr, Option, Some, None}
-use Rattle.std.specs.Prelude.{◌⊎◌, Contains, filter, IsTrue, ◌==◌, is_some}
+use Rattle.std.proofs.Common.{◌≡◌, refl, sym, ◌∙◌, ap, subst, ℕ, Bool, true, false, not, ◌&&◌, cond, List, [], ◌∷◌, inl, inr, Option, Some, None}
+use Rattle.std.specs.Prelude.{Contains, IsTrue, ◌==◌, is_some}
 use Rattle.std.specs.List.{list_any}
-use Rattle.std.proofs.lemmas.Bool.{cases_Bool, and_parts, and_from, not-true, eqb-true, eq-eqb, false≢true}
+use Rattle.std.proofs.lemmas.Bool.{cases_Bool, and_parts, false≢true}
 use Rattle.cloud_base.specs.Values.{Id}
 use Rattle.cloud_base.specs.Order.{id_order, keys_order, same_keys}
 use Rattle.cloud_base.specs.PlainCell.{plain_value, plain_int, plain_text, default_of, is_default}
 use Rattle.std.specs.Int.{int_wrap}
-use Rattle.cloud_base.specs.Log.{Creation, creation, created, is_of, of_cell, touched, is_created, ids_of}
-use Rattle.cloud_base.specs.Dead.{is_dead, has_dead, is_alive}
+use Rattle.cloud_base.specs.Log.{Creation, creation, created, is_of, of_cell, touched, ids_of}
+use Rattle.cloud_base.specs.Dead.{is_dead, has_dead}
 use Rattle.cloud_base.specs.Shaped.{cell_type}
-use Rattle.cloud_base.specs.Sorted.{Lists, ascending}
+use Rattle.cloud_base.specs.Sorted.{Lists}
 use Rattle.cloud_base.specs.Alike.{Alike}
 use Rattle.cloud_base.specs.Answer.{answer, all_ids, entries, cell_value, is_listed, is_entry}
 use Rattle.cloud_base.specs.declared.key.Key.{Key}
 use Rattle.cloud_base.specs.declared.schema.Schema.{Schema}
 use Rattle.cloud_base.specs.declared.schema.CellType.{CellType}
 use Rattle.cloud_base.specs.declared.schema.CellType.TheVariants.{Int as IntCell, Text as TextCell}
-use Rattle.cloud_base.specs.declared.update.CellChange.{CellChange}
 use Rattle.cloud_base.specs.declared.update.Update.{Update}
 use Rattle.cloud_base.specs.declared.update.Update.TheVariants.{Cell, Create, Delete}
 use Rattle.cloud_base.specs.declared.update.Query.{Query}
 use Rattle.cloud_base.specs.declared.update.Query.TheVariants.{Get, All, Entries, Alive}
-use Rattle.cloud_base.specs.declared.update.Answer.{Answer}
 use Rattle.cloud_base.specs.declared.update.Answer.TheVariants.{Ids, Tuples, Truth}
 use Rattle.cloud_base.proofs.OrderLemmas.{id_order_total, id_same, keys_order_total, keys_same, same_keys_decides}
-use Rattle.cloud_base.proofs.SortedLemmas.{here, there, none_in, split_member, ascending_kept, lists_one}
+use Rattle.cloud_base.proofs.SortedLemmas.{here, there, ascending_kept, lists_one}
 use Rattle.cloud_base.proofs.LogLemmas.{created_member, created_contains}
 use Rattle.cloud_base.proofs.DeadLemmas.{dead_alike, has_dead_same, some_member, member_some}
 

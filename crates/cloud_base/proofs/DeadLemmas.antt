@@ -1,6 +1,6 @@
 -- The test for dead ids meets the chains, and which logs have the same dead ids.
-use Rattle.std.proofs.Common.{◌≡◌, refl, sym, ◌∙◌, ap, subst, ℕ, zero, suc, ◌<◌, ◌≤◌, Bool, true, false, not, ◌&&◌, ◌||◌, cond, List, [], ◌∷◌, ◌++◌, length, inl, inr, arith, Option, Some, None}
-use Rattle.std.specs.Prelude.{◌⊎◌, Contains, IsTrue}
+use Rattle.std.proofs.Common.{◌≡◌, refl, sym, ◌∙◌, ap, subst, ℕ, zero, suc, ◌<◌, ◌≤◌, Bool, true, false, ◌||◌, List, [], ◌∷◌, ◌++◌, length, inl, inr, arith, Option, Some, None}
+use Rattle.std.specs.Prelude.{◌⊎◌, Contains}
 use Rattle.std.specs.Bool.{Decides}
 use Rattle.std.specs.List.{list_any}
 use Rattle.std.proofs.lemmas.Bool.{cases_Bool, or_cases, false≢true}
@@ -17,7 +17,7 @@ use Rattle.cloud_base.specs.declared.update.Update.{Update}
 use Rattle.cloud_base.specs.declared.update.Update.TheVariants.{Create, Delete}
 use Rattle.cloud_base.proofs.OrderLemmas.{same_id_decides}
 use Rattle.cloud_base.proofs.SortedLemmas.{here, there, none_in, split_member}
-use Rattle.cloud_base.proofs.LogLemmas.{deleted_member, member_deleted, created_member, member_created, creation_stays, without, deleted_without, creation_without_itself, creation_without, one_fewer, or_right}
+use Rattle.cloud_base.proofs.LogLemmas.{deleted_member, member_deleted, created_member, member_created, without, deleted_without, creation_without_itself, creation_without, one_fewer, or_right}
 
 -- ---- a test of some member
 

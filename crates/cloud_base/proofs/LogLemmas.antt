@@ -1,16 +1,16 @@
 -- What a log's creations and deletions are, by its members.
-use Rattle.std.proofs.Common.{◌≡◌, refl, sym, ◌∙◌, ap, subst, ℕ, zero, suc, ◌<◌, ◌≤◌, Bool, true, false, not, ◌&&◌, ◌||◌, cond, List, [], ◌∷◌, ◌++◌, length, inl, inr, arith, Option, Some, None}
-use Rattle.std.specs.Prelude.{◌⊎◌, Contains, is_some, IsTrue, ◌==◌}
+use Rattle.std.proofs.Common.{◌≡◌, refl, sym, ◌∙◌, ap, subst, ℕ, suc, ◌<◌, ◌≤◌, Bool, true, false, ◌&&◌, ◌||◌, cond, List, [], ◌∷◌, ◌++◌, length, inl, inr, arith, Option, Some, None}
+use Rattle.std.specs.Prelude.{Contains, ◌==◌}
 use Rattle.std.specs.Option.{option_or}
 use Rattle.std.proofs.lemmas.Bool.{cases_Bool}
 use Rattle.cloud_base.specs.Values.{Id}
 use Rattle.cloud_base.specs.Order.{same_id, same_keys}
-use Rattle.cloud_base.specs.Log.{Creation, of_cell, touched, creation, created, is_created, is_deleted, parents, parents_of, ids_of}
-use Rattle.cloud_base.specs.Shaped.{NoRepeat, CreatedOnce}
+use Rattle.cloud_base.specs.Log.{Creation, of_cell, touched, creation, created, is_deleted}
+use Rattle.cloud_base.specs.Shaped.{CreatedOnce}
 use Rattle.cloud_base.specs.declared.key.Key.{Key}
 use Rattle.cloud_base.specs.declared.update.Update.{Update}
 use Rattle.cloud_base.specs.declared.update.Update.TheVariants.{Cell, Create, Delete}
-use Rattle.cloud_base.proofs.OrderLemmas.{same_id_decides, same_id_itself}
+use Rattle.cloud_base.proofs.OrderLemmas.{same_id_decides}
 use Rattle.cloud_base.proofs.SortedLemmas.{here, there, none_in, split_member}
 
 -- ---- deletions

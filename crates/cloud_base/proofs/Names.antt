@@ -1,8 +1,8 @@
 -- The bytes of a name are ASCII.
-use Rattle.std.proofs.Common.{◌≡◌, ℕ, zero, suc, ◌<◌, Bool, true, false, ◌&&◌, ◌||◌, List, [], ◌∷◌, refl, sym, slice_index, arith}
+use Rattle.std.proofs.Common.{◌≡◌, ℕ, zero, suc, ◌<◌, Bool, true, false, ◌&&◌, ◌||◌, List, [], ◌∷◌, refl, arith}
 use Rattle.std.proofs.lemmas.Bool.Decides.{nat_tests}
 use Rattle.std.specs.Str.{IsAscii}
-use Rattle.cloud_base.specs.Values.{is_letter, is_digit, is_name_byte, all_name_bytes, is_name, IsName}
+use Rattle.cloud_base.specs.Values.{is_letter, is_digit, is_name_byte, all_name_bytes, IsName}
 
 letter_small : (b : ℕ) → is_letter b ≡ true → b < 128
 letter_small b h = grind (arith, nat_tests)

@@ -1,5 +1,5 @@
 -- What a read hands out and what a write takes, where the object tells it.
-use Rattle.std.specs.Prelude.{◌≡◌, ℕ, ◌≤◌, ◌-◌, ◌+◌, ◌^◌, List, [], ◌∷◌, ◌++◌, ◌⊎◌, length, take, drop, min, Bool, false, if◌then◌else◌, ◌==◌, Option, Some, None, Result, Ok, Err}
+use Rattle.std.specs.Prelude.{◌≡◌, ℕ, ◌≤◌, ◌-◌, ◌+◌, ◌^◌, List, [], ◌++◌, ◌⊎◌, length, take, drop, min, Bool, false, if◌then◌else◌, ◌==◌, Option, Some, None, Result, Ok, Err}
 use Rattle.cloud_base.specs.Causes.{Rose}
 
 -- a read of a source that had these bytes left: the first of them are handed out and the others stay;

@@ -13,8 +13,11 @@ pub struct StdSource<R> {
     ends: u64,
 }
 
-impl<R> StdSource<R> {
-    pub fn new(reader: R) -> StdSource<R> {
+impl<R: Read> StdSource<R> {
+    pub fn new(reader: R) -> StdSource<R>
+        ensures faults { ⟦<StdSource<R> as Source>⟧.faults result ≡ 0 }
+        ensures ends { ⟦<StdSource<R> as Source>⟧.ends result ≡ 0 }
+    {
         StdSource {
             inner: reader,
             faults: 0,
@@ -54,8 +57,10 @@ pub struct StdSink<W> {
     faults: u64,
 }
 
-impl<W> StdSink<W> {
-    pub fn new(writer: W) -> StdSink<W> {
+impl<W: Write> StdSink<W> {
+    pub fn new(writer: W) -> StdSink<W>
+        ensures { ⟦<StdSink<W> as Sink>⟧.faults result ≡ 0 }
+    {
         StdSink {
             inner: writer,
             faults: 0,

@@ -1,4 +1,4 @@
-use Rattle.std.proofs.Common.{◌≡◌, ◌∙◌, ◌≤◌, ◌++◌, [], ◌∷◌, length, get_or, take, subst, sym, arith}
+use Rattle.std.proofs.Common.{◌≡◌, ◌∙◌, subst, sym, arith}
 use Rattle.std.proofs.lemmas.Grind.{common_steps}
 use Rattle.cloud_base.specs.Values.{IsText}
 use Rattle.cloud_base.proofs.TextLemmas.{cat_room, cat_full, cat_nothing, cat_is_text}
