@@ -1,12 +1,13 @@
 -- What a further step leaves as it was, and what holds of every list of steps.
 use Rattle.std.proofs.Common.{◌≡◌, ℕ, ◌+◌, ◌<◌, ◌≤◌, Bool, true, false, cond, List, [], ◌∷◌, ◌++◌, length, drop, take, refl, sym, ap, subst, ◌∙◌, arith, Some, None, inl, inr}
-use Rattle.std.specs.Prelude.{IsTrue, ◌&&◌, not, ◌≢◌, MatchOption}
+use Rattle.std.specs.Prelude.{IsTrue, ◌&&◌, not, ◌==◌, ◌≢◌, MatchOption}
 use Rattle.std.specs.List.{list_all, AllByRecursion}
-use Rattle.std.proofs.lemmas.Bool.{and_from, false≢true, cases_lt, cases_eq, cases_Bool}
+use Rattle.std.proofs.lemmas.Bool.{and_from, false≢true, cases_lt, cases_eq, cases_Bool, eqb-true}
 use Rattle.std.proofs.lemmas.List.{take-append-drop}
 use Rattle.revision_diagram.specs.declared.step.Step.{Step}
 use Rattle.revision_diagram.specs.declared.step.Step.TheVariants.{Fork, Join, Do, Ask, Say, Mark}
 use Rattle.revision_diagram.specs.Diagram.{Diagram, diagram, after, revisions, live, owner, past, path, fork, fork_length}
+use Rattle.revision_diagram.specs.Lawful.{lawful}
 use Rattle.revision_diagram.specs.Once.{times_on, stands_on, is_do, joins_apart, StandsOnce}
 use Rattle.revision_diagram.specs.Meeting.{Tree, FlushLaw, flushes, client_at, Flushed}
 use Rattle.revision_diagram.proofs.Steps.{by_steps, diagram-step, diagram-places}
@@ -136,3 +137,12 @@ path-there steps r i h = all_at (is_do steps) (path steps r) i (paths_do steps r
 
 pub owner-some : (steps : List Step) (x : ℕ) → 0 < x → x < revisions steps → owner steps x ≢ None
 owner-some steps x l m e = let h : Served (diagram steps) = served steps in h.owned x l m e
+
+-- a join that may come
+pub lawful-Join : (steps : List Step) (r s : ℕ) → IsTrue (live steps r) → IsTrue (live steps s) → s ≢ 0 → s ≢ r → IsTrue (past steps r (fork steps s)) → IsTrue (lawful steps (Join r s))
+lawful-Join steps r s r_lives s_lives not_server not_joiner seen =
+    and_from (live steps r && live steps s && not (s == 0) && not (s == r)) (past steps r (fork steps s))
+    (and_from (live steps r && live steps s && not (s == 0)) (not (s == r))
+    (and_from (live steps r && live steps s) (not (s == 0)) (and_from (live steps r) (live steps s) r_lives s_lives) (not_from (s == 0) (λ e. not_server (eqb-true s 0 e))))
+    (not_from (s == r) (λ e. not_joiner (eqb-true s r e))))
+    seen

@@ -5,9 +5,10 @@ use Rattle.std.specs.List.{filter_map, last_or, cons_option}
 use Rattle.std.proofs.lemmas.List.Elements.{filter_map-append}
 use Rattle.cloud_base.specs.declared.update.Event.{Event}
 use Rattle.revision_diagram.specs.declared.step.Step.{Step}
-use Rattle.revision_diagram.specs.Diagram.{places_of}
+use Rattle.revision_diagram.specs.declared.step.Step.TheVariants.{Mark}
+use Rattle.revision_diagram.specs.Diagram.{places_of, is_of, owner}
 use Rattle.revision_diagram.specs.Story.{is_told, story, event_of, events, answer_of, answers_got}
-use Rattle.revision_diagram.specs.Meeting.{is_flush, flushes}
+use Rattle.revision_diagram.specs.Meeting.{is_flush, flushes, is_mark, is_mark_at}
 use Rattle.revision_diagram.proofs.Steps.{by_steps, places_of-step}
 use Rattle.revision_diagram.proofs.Logs.{slice_get-front, slice_get-last}
 
@@ -80,3 +81,15 @@ story-untold steps s c e = story-step steps s c ∙ ap (λ (b : Bool). story ste
 
 pub story-told : (steps : List Step) (s : Step) (c : ℕ) → is_told c steps s ≡ true → story (steps ++ s ∷ []) c ≡ story steps c ++ length steps ∷ []
 story-told steps s c e = story-step steps s c ∙ ap (λ (b : Bool). story steps c ++ cond b (length steps ∷ []) []) e
+
+mark_kept : (steps ys : List Step) (o : Option ℕ) (places : List ℕ) → all_under (length steps) places → is_mark_at (steps ++ ys) o ≡ is_mark_at steps o → is_mark_at (steps ++ ys) (last_or o places) ≡ is_mark_at steps (last_or o places)
+mark_kept steps ys o [] h e = e
+mark_kept steps ys o (i ∷ places) h e = mark_kept steps ys (Some i) places h.1 (ap is_mark (slice_get-front steps ys i h.0))
+
+-- a Mark of c is c's last story step
+pub is_marked-Mark : (steps : List Step) (r c : ℕ) (flush : Bool) → is_of c (owner steps r) ≡ true → is_mark_at (steps ++ Mark r flush ∷ []) (last_or None (story (steps ++ Mark r flush ∷ []) c)) ≡ true
+is_marked-Mark steps r c flush e = ap (is_mark_at (steps ++ Mark r flush ∷ [])) (last_story-told steps (Mark r flush) c e) ∙ ap is_mark (slice_get-last steps (Mark r flush))
+
+-- what is no story step of c leaves its last one
+pub is_marked-kept : (steps : List Step) (s : Step) (c : ℕ) → is_told c steps s ≡ false → is_mark_at (steps ++ s ∷ []) (last_or None (story (steps ++ s ∷ []) c)) ≡ is_mark_at steps (last_or None (story steps c))
+is_marked-kept steps s c e = ap (λ (t : List ℕ). is_mark_at (steps ++ s ∷ []) (last_or None t)) (story-untold steps s c e) ∙ mark_kept steps (s ∷ []) None (story steps c) (places_of-under (is_told c) steps) refl

@@ -5,12 +5,12 @@ ghost use Rattle.cloud_base.specs.declared.update.Update.{Update};
 ghost use Rattle.cloud_base.specs.declared.update.Query.{Query};
 ghost use Rattle.cloud_base.specs.declared.update.Answer.{Answer};
 ghost use Rattle.revision_diagram.specs.declared.step.Step.{Step};
-ghost use Rattle.revision_diagram.specs.Diagram.{diagram_from, diagram, after, put, with_place, with_past, acts_on, revisions, live, owner, past, path, fork, fork_length};
+ghost use Rattle.revision_diagram.specs.Diagram.{diagram_from, diagram, after, put, with_place, with_past, acts_on, is_of, revisions, live, owner, past, path, fork, fork_length};
 ghost use Rattle.revision_diagram.specs.Lawful.{lawful, Lawful};
 ghost use Rattle.revision_diagram.specs.Right.{log, Right, AnsweredRight};
 ghost use Rattle.revision_diagram.specs.Once.{stands_on, is_do, joins_apart, StandsOnce, StandOnce, Once};
 ghost use Rattle.revision_diagram.specs.Story.{is_told, story, event_of, events, answer_of, answers_got, is_in_line, LineLaw};
-ghost use Rattle.revision_diagram.specs.Meeting.{Tree, is_placed, Placed, is_at_mark, AtMarks, is_flush, flushes, FlushLaw};
+ghost use Rattle.revision_diagram.specs.Meeting.{Tree, is_placed, Placed, is_at_mark, AtMarks, is_flush, flushes, is_mark_at, FlushLaw};
 
 /// The longer diagram is the shorter one with the step drawn.
 pub fn step_draws()
@@ -101,6 +101,7 @@ pub fn revisions_are_there()
 pub fn lawful_step()
     ensures more { (steps : List Step) (s : Step) → Lawful (steps ++ s ∷ []) ↔ (Lawful steps × IsTrue (lawful steps s)) }
     ensures by_place { (steps : List Step) → Lawful steps ↔ ((i : ℕ) (s : Step) → slice_get steps i ≡ Some s → IsTrue (lawful (take i steps) s)) }
+    ensures join { (steps : List Step) (r s : ℕ) → IsTrue (live steps r) → IsTrue (live steps s) → s ≢ 0 → s ≢ r → IsTrue (past steps r (fork steps s)) → IsTrue (lawful steps (Step.Join r s)) }
 {}
 
 /// Steps are answered right where each is after those before it.
@@ -139,4 +140,6 @@ pub fn meeting_step()
     ensures at_marks { (tree : Tree) (steps : List Step) (s : Step) → AtMarks tree (steps ++ s ∷ []) ↔ (AtMarks tree steps × IsTrue (is_at_mark tree steps s)) }
     ensures flushes { (steps : List Step) (s : Step) → flushes (steps ++ s ∷ []) ≡ flushes steps ++ cond (is_flush s) (length steps ∷ []) [] }
     ensures none { (tree : Tree) (steps : List Step) → flushes steps ≡ [] → FlushLaw tree steps }
+    ensures marked { (steps : List Step) (r c : ℕ) (flush : Bool) → IsTrue (is_of c (owner steps r)) → IsTrue (is_mark_at (steps ++ Step.Mark r flush ∷ []) (last_or None (story (steps ++ Step.Mark r flush ∷ []) c))) }
+    ensures unmarked { (steps : List Step) (s : Step) (c : ℕ) → is_told c steps s ≡ false → is_mark_at (steps ++ s ∷ []) (last_or None (story (steps ++ s ∷ []) c)) ≡ is_mark_at steps (last_or None (story steps c)) }
 {}

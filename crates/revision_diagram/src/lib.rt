@@ -14,3 +14,6 @@ pub use laws::{
 pub use past::past_of;
 pub use path::{PlaceList, UpdateList, log_of, path_of};
 pub use step::{EndList, Step, StepList};
+
+#[cfg(test)]
+mod tests;

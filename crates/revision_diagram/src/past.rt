@@ -128,25 +128,14 @@ fn draw(
 {
     match step {
         Step::Fork(revision, _) => {
+            let source = *revision as usize;
             push_act(rows, alloc, *revision, place)?;
-            push_row(
-                rows,
-                alloc,
-                forks + 1,
-                *revision as usize,
-                *revision as usize,
-                place,
-            )
+            push_row(rows, alloc, forks + 1, source, source, place)
         }
         Step::Join(revision, other) => {
-            push_row(
-                rows,
-                alloc,
-                *revision as usize,
-                *revision as usize,
-                *other as usize,
-                place,
-            )
+            let joiner = *revision as usize;
+            let joined = *other as usize;
+            push_row(rows, alloc, joiner, joiner, joined, place)
         }
         Step::Do(revision, _) => push_act(rows, alloc, *revision, place),
         Step::Ask(revision, _, _) => push_act(rows, alloc, *revision, place),

@@ -2,6 +2,7 @@
 use Rattle.std.specs.Prelude.{IsTrue}
 use Rattle.revision_diagram.specs.Lawful.{lawful}
 use Rattle.revision_diagram.proofs.Places.{EachStep-more, EachStep-by_place}
+use Rattle.revision_diagram.proofs.Kept.{lawful-Join}
 use Rattle.revision_diagram.proofs.laws.lawful_step.Goals as goal
 
 pub returns-clause-more : goal.returns-clause-more
@@ -9,3 +10,6 @@ returns-clause-more c = λ steps s. EachStep-more (λ front t. IsTrue (lawful fr
 
 pub returns-clause-by_place : goal.returns-clause-by_place
 returns-clause-by_place c = λ steps. EachStep-by_place (λ front t. IsTrue (lawful front t)) steps
+
+pub returns-clause-join : goal.returns-clause-join
+returns-clause-join c = lawful-Join

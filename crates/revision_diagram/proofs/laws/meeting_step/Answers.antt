@@ -4,6 +4,8 @@ use Rattle.revision_diagram.specs.Meeting.{is_placed, is_at_mark}
 use Rattle.revision_diagram.proofs.Places.{EachStep-more}
 use Rattle.revision_diagram.proofs.Stories.{flushes-step}
 use Rattle.revision_diagram.proofs.Kept.{FlushLaw-none}
+use Rattle.revision_diagram.proofs.Stories.{is_marked-Mark}
+use Rattle.revision_diagram.proofs.Stories.{is_marked-kept}
 use Rattle.revision_diagram.proofs.laws.meeting_step.Goals as goal
 
 pub returns-clause-placed : goal.returns-clause-placed
@@ -17,3 +19,9 @@ returns-clause-flushes c = flushes-step
 
 pub returns-clause-none : goal.returns-clause-none
 returns-clause-none c = FlushLaw-none
+
+pub returns-clause-marked : goal.returns-clause-marked
+returns-clause-marked c = is_marked-Mark
+
+pub returns-clause-unmarked : goal.returns-clause-unmarked
+returns-clause-unmarked c = is_marked-kept
