@@ -1,7 +1,6 @@
 // What a program of one client means: its steps, its report, and that they are a lawful diagram.
 #![tactic(auto)]
 
-ghost use Rattle.std.specs.Prelude.{◌≡◌};
 ghost use Rattle.cloud_parse.specs.Form.{Form};
 ghost use Rattle.one_client.specs.Headline.{Headline};
 ghost use Rattle.one_client.specs.Program.{schema_of, trace, end_of};
