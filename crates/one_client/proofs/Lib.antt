@@ -1,0 +1,5 @@
+pub mod Told
+pub mod Laws
+pub mod Shape
+pub mod EachStep
+pub mod Runs

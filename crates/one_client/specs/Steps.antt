@@ -1,6 +1,7 @@
 -- The steps of a run of one client, and its report. Its yields are answered at once.
 use Rattle.std.specs.Prelude.{◌≡◌, refl, ℕ, ◌+◌, Bool, true, false, if◌then◌else◌, List, [], ◌∷◌, ◌++◌, Option, Some, None, unwrap_or, codes, pos}
 use Rattle.std.specs.List.{list_any}
+use Rattle.std.specs.Fmt.{digits}
 use Rattle.std.specs.Int.{int_wrap}
 use Rattle.cloud_base.specs.Answer.{answer}
 use Rattle.cloud_base.specs.Dead.{is_dead}
@@ -96,3 +97,9 @@ module _ where
       ∷ Ask 2 (query_of 0) (Int (pos 2)) ∷ Say 2 (Int (pos 2)) ∷ Mark 2 false ∷ Join 3 2 ∷ Fork 3 0 ∷ Join 0 3 ∷ Ask 4 (query_of 0) (Int (pos 2)) ∷ Say 4 (Int (pos 2)) ∷ []
   unfolding answer is_dead plain_value plain_int int_wrap
   example_steps = refl
+
+  -- a run that ends right after its push, and its report
+  pub example_report : report_of record { globals = codes "g" ∷ []; client = codes "a"; acts = Change 0 Add record { minus = true; number = 2 } ∷ Yield ∷ Print 0 ∷ [] }
+      ≡ codes "fork 0 1 a\ndo 1 g.add(-2)\nmark 1 yield\nfork 1 2 a\njoin 0 1\nask 2 g = -2\nsay 2 -2\nend a Done\n"
+  unfolding answer is_dead plain_value plain_int int_wrap digits
+  example_report = refl
