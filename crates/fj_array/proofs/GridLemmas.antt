@@ -1,0 +1,73 @@
+-- Laws of a grid, cell by cell.
+use Rattle.std.proofs.Common.{◌≡◌, Bool, true, false, List, [], ◌∷◌, ◌++◌, cond, refl, sym, ◌∙◌, ap, subst, append-nil}
+use Rattle.std.specs.Prelude.{Option, Some, None}
+use Rattle.std.specs.Prelude.{Result}
+use Rattle.std.specs.Result.{OnOk}
+use Rattle.std.specs.declared.result.Result.TheVariants.{Ok, Err}
+use Rattle.fj_core.specs.declared.effect.Effect.{Effect}
+use Rattle.fj_array.specs.declared.cell.Cell.{Cell}
+use Rattle.std.specs.Ordering.{is_eq}
+use Rattle.std.specs.Cmp.{IsTotalOrder}
+use Rattle.std.proofs.lemmas.Cmp.{tied_itself}
+use Rattle.fj_array.specs.Cells.{cell_order, same_cell, At, of_cell}
+use Rattle.fj_array.specs.Grids.{kept_at, IsIdle, CellStands, GridStands, Puts, AgreeElsewhere}
+use Rattle.fj_array.proofs.CellLemmas.{IsLawful, of_cell-append, of_cell-one, of_cell-other}
+
+-- no two cells stand at one place
+abbrev pub Apart : Type 0
+Apart = (a b : Cell) → same_cell a b ≡ true → a ≡ b
+
+pub on_ok : {T E P Q : Type 0} (r : Result T E) → (P → Q) → OnOk r P → OnOk r Q
+on_ok (Ok x) f h = f h
+on_ok (Err e) f h = h
+
+pub by_cases : {P : Type 0} (b : Bool) → (b ≡ true → P) → (b ≡ false → P) → P
+by_cases true f g = f refl
+by_cases false f g = g refl
+
+pub same_itself : IsTotalOrder cell_order → (cell : Cell) → same_cell cell cell ≡ true
+same_itself o cell = ap is_eq (tied_itself o cell)
+
+module _ {S C V : Type 0} (plain : List C → V) (effect_of : List C → Option Effect) (stands : S → List C → List C → Type 0) where
+  -- one cell is put, and the logs agree elsewhere
+  pub put_stands : Apart → (cell : Cell) (state : S) (old new : List (Cell × S)) (base delta before after : List (At C))
+      → Puts plain effect_of stands cell state old new → GridStands plain effect_of stands old base delta
+      → stands state (of_cell cell before) (of_cell cell after)
+      → AgreeElsewhere cell base before → AgreeElsewhere cell delta after → GridStands plain effect_of stands new before after
+  put_stands apart cell state old new base delta before after puts h here e f q =
+      by_cases (same_cell cell q)
+      (λ is. subst (λ (x : Cell). CellStands plain effect_of stands (kept_at new x) (of_cell x before) (of_cell x after)) (apart cell q is)
+          (puts.here (of_cell cell before) (of_cell cell after) here))
+      (λ is. subst (λ (o : Option S). CellStands plain effect_of stands o (of_cell q before) (of_cell q after)) (sym (puts.elsewhere q is))
+          (subst (λ (l : List C). CellStands plain effect_of stands (kept_at old q) l (of_cell q after)) (e q is)
+              (subst (λ (l : List C). CellStands plain effect_of stands (kept_at old q) (of_cell q base) l) (f q is) (h q))))
+
+  -- what a look-up found
+  pub when_some : (o : Option S) (s : S) (base delta : List C) → Some s ≡ o → CellStands plain effect_of stands o base delta
+      → stands s base delta × (IsIdle plain effect_of base delta → ⊥)
+  when_some o s base delta e h = subst (λ (x : Option S). CellStands plain effect_of stands x base delta) (sym e) h
+
+  pub when_none : (o : Option S) (base delta : List C) → None ≡ o → CellStands plain effect_of stands o base delta → IsIdle plain effect_of base delta
+  when_none o base delta e h = subst (λ (x : Option S). CellStands plain effect_of stands x base delta) (sym e) h
+
+  -- one change more of one cell
+  pub update_stands : Apart → IsTotalOrder cell_order → (cell : Cell) (state : S) (old new : List (Cell × S)) (change : C) (base delta : List (At C))
+      → ((before after : List C) → CellStands plain effect_of stands (kept_at old cell) before after → stands state before (after ++ change ∷ []))
+      → Puts plain effect_of stands cell state old new → GridStands plain effect_of stands old base delta
+      → GridStands plain effect_of stands new base (delta ++ record {cell = cell; change = change} ∷ [])
+  update_stands apart o cell state old new change base delta does puts h =
+      let u : At C = record {cell = cell; change = change} in
+      put_stands apart cell state old new base delta base (delta ++ u ∷ []) puts h
+      (subst (λ (l : List C). stands state (of_cell cell base) l) (sym (of_cell-one cell delta u (same_itself o cell))) (does (of_cell cell base) (of_cell cell delta) (h cell)))
+      (λ q is. refl) (λ q is. sym (of_cell-other q delta u is))
+
+  -- changes of one cell with a known effect
+  pub join_effect_stands : Apart → (cell : Cell) (state : S) (old new : List (Cell × S)) (effect : Effect) (base delta more : List (At C))
+      → ((before after more : List C) → CellStands plain effect_of stands (kept_at old cell) before after → effect_of more ≡ Some effect → stands state before (after ++ more))
+      → Puts plain effect_of stands cell state old new → GridStands plain effect_of stands old base delta
+      → effect_of (of_cell cell more) ≡ Some effect → AgreeElsewhere cell more [] → GridStands plain effect_of stands new base (delta ++ more)
+  join_effect_stands apart cell state old new effect base delta more does puts h e agree =
+      put_stands apart cell state old new base delta base (delta ++ more) puts h
+      (subst (λ (l : List C). stands state (of_cell cell base) l) (sym (of_cell-append cell delta more)) (does (of_cell cell base) (of_cell cell delta) (of_cell cell more) (h cell) e))
+      (λ q is. refl)
+      (λ q is. sym (of_cell-append q delta more ∙ ap (λ (l : List C). of_cell q delta ++ l) (agree q is) ∙ append-nil (of_cell q delta)))

@@ -1,0 +1,102 @@
+-- A list that is filled in a walk over the kept cells, with exactly the items that are asked for.
+use Rattle.std.proofs.Common.{◌≡◌, Bool, true, false, List, [], ◌∷◌, ◌++◌, ◌⊎◌, inl, inr, cond, refl, sym, ◌∙◌, ap, subst, ℕ, arith}
+use Rattle.std.specs.Prelude.{Option, Some, None, ◌↔◌, Contains}
+use Rattle.std.specs.List.{AllByRecursion}
+use Rattle.std.specs.List.Sorted.{IsStrictlySortedBy}
+use Rattle.std.specs.Map.{lookup, keys_of}
+use Rattle.std.specs.BTreeMap.{is_at}
+use Rattle.std.specs.declared.cmp.Ordering.{Ordering}
+use Rattle.std.specs.declared.cmp.Ordering.TheVariants.{Less}
+use Rattle.std.specs.Cmp.{IsTotalOrder}
+use Rattle.std.proofs.lemmas.Map.Keys.{sorted_head, sorted_tail}
+use Rattle.std.proofs.lemmas.List.Elements.{Contains-push, Contains-push_cases, Contains-append_left}
+use Rattle.cloud_base.specs.Sorted.{Lists}
+use Rattle.fj_array.specs.declared.cell.Cell.{Cell}
+use Rattle.fj_array.specs.Cells.{cell_order, same_cell}
+use Rattle.fj_array.proofs.GridLemmas.{Apart, by_cases}
+use Rattle.fj_array.proofs.WalkLemmas.{none_after}
+
+-- the keys of the entries are above a cell
+abbrev pub Below : {S : Type 0} → Cell → List (Cell × S) → Type 0
+Below cell rest = AllByRecursion (λ e. cell_order cell e ≡ Less) (keys_of rest)
+
+-- the list ascends, is below what is left of the walk, and has exactly the items asked for whose cell isn't left
+pub record Listed {S X : Type 0} (order : X → X → Ordering) (cell : X → Cell) (P : X → Type 0) (rest : List (Cell × S)) (list : List X) : Type 0 where
+  pub left : IsStrictlySortedBy cell_order (keys_of rest)
+  pub ascends : IsStrictlySortedBy order list
+  pub below : AllByRecursion (λ x. Below (cell x) rest) list
+  pub only : (x : X) → Contains list x → P x × (lookup (is_at (cell_order (cell x))) rest ≡ None)
+  pub every : (x : X) → P x → lookup (is_at (cell_order (cell x))) rest ≡ None → Contains list x
+
+all_map : {X : Type 0} (P Q : X → Type 0) (xs : List X) → ((x : X) → P x → Q x) → AllByRecursion P xs → AllByRecursion Q xs
+all_map P Q [] f h = h
+all_map P Q (x ∷ xs) f h = (f x h.0, all_map P Q xs f h.1)
+
+all_push : {X : Type 0} (P : X → Type 0) (xs : List X) (y : X) → AllByRecursion P xs → P y → AllByRecursion P (xs ++ y ∷ [])
+all_push P [] y h p = (p, tt)
+all_push P (x ∷ xs) y h p = (h.0, all_push P xs y h.1 p)
+
+sorted_push : {X : Type 0} (order : X → X → Ordering) (xs : List X) (y : X) → IsStrictlySortedBy order xs → AllByRecursion (λ x. order x y ≡ Less) xs → IsStrictlySortedBy order (xs ++ y ∷ [])
+unfolding IsStrictlySortedBy
+sorted_push order [] y s h = (tt, tt)
+sorted_push order (x ∷ xs) y s h = (all_push (λ z. order x z ≡ Less) xs y s.0 h.0, sorted_push order xs y s.1 h.1)
+
+nothing_in : {X P : Type 0} (x : X) → Contains [] x → P
+nothing_in x h = absurd (omega (arith, h.1))
+
+module _ {S X : Type 0} (order : X → X → Ordering) (cell : X → Cell) (P : X → Type 0) where
+  pub list_start : (rest : List (Cell × S)) → IsStrictlySortedBy cell_order (keys_of rest) → ((x : X) → P x → lookup (is_at (cell_order (cell x))) rest ≡ None → ⊥)
+      → Listed order cell P rest []
+  unfolding IsStrictlySortedBy
+  list_start rest sorted none = record {
+    left = sorted;
+    ascends = tt;
+    below = tt;
+    only = λ x h. nothing_in x h;
+    every = λ x p e. absurd (none x p e);
+  }
+
+  look : (k : Cell) (s : S) (rest : List (Cell × S)) (q : Cell) → same_cell q k ≡ false → lookup (is_at (cell_order q)) rest ≡ None → lookup (is_at (cell_order q)) ((k, s) ∷ rest) ≡ None
+  look k s rest q is e = ap (λ (b : Bool). cond b (Some s) (lookup (is_at (cell_order q)) rest)) is ∙ e
+
+  gone : IsTotalOrder cell_order → (k : Cell) (s : S) (rest : List (Cell × S)) → IsStrictlySortedBy cell_order (keys_of ((k, s) ∷ rest)) → (q : Cell)
+      → lookup (is_at (cell_order q)) ((k, s) ∷ rest) ≡ None → lookup (is_at (cell_order q)) rest ≡ None
+  gone o k s rest sorted q e =
+      by_cases (same_cell q k) (λ is. none_after o k s rest sorted q is)
+      (λ is. sym (ap (λ (b : Bool). cond b (Some s) (lookup (is_at (cell_order q)) rest)) is) ∙ e)
+
+  -- the first that is left has no item
+  pub list_skip : Apart → IsTotalOrder cell_order → (k : Cell) (s : S) (rest : List (Cell × S)) (list : List X) → ((x : X) → cell x ≡ k → P x → ⊥)
+      → Listed order cell P ((k, s) ∷ rest) list → Listed order cell P rest list
+  list_skip apart o k s rest list none h = record {
+    left = sorted_tail cell_order k (keys_of rest) h.left;
+    ascends = h.ascends;
+    below = all_map (λ x. Below (cell x) ((k, s) ∷ rest)) (λ x. Below (cell x) rest) list (λ x b. b.1) h.below;
+    only = λ x is. ((h.only x is).0, gone o k s rest h.left (cell x) (h.only x is).1);
+    every = λ x p e. by_cases (same_cell (cell x) k) (λ is. absurd (none x (apart (cell x) k is) p)) (λ is. h.every x p (look k s rest (cell x) is e));
+  }
+
+  -- the first that is left has one item
+  pub list_push : Apart → IsTotalOrder cell_order → (k : Cell) (s : S) (rest : List (Cell × S)) (list : List X) (y : X)
+      → cell y ≡ k → P y → ((x : X) → cell x ≡ k → P x → y ≡ x) → ((x : X) → cell_order (cell x) k ≡ Less → order x y ≡ Less)
+      → same_cell k k ≡ true
+      → Listed order cell P ((k, s) ∷ rest) list → Listed order cell P rest (list ++ y ∷ [])
+  list_push apart o k s rest list y at p one agrees itself h = record {
+    left = sorted_tail cell_order k (keys_of rest) h.left;
+    ascends = sorted_push order list y h.ascends (all_map (λ x. Below (cell x) ((k, s) ∷ rest)) (λ x. order x y ≡ Less) list (λ x b. agrees x b.0) h.below);
+    below = all_push (λ x. Below (cell x) rest) list y
+        (all_map (λ x. Below (cell x) ((k, s) ∷ rest)) (λ x. Below (cell x) rest) list (λ x b. b.1) h.below)
+        (subst (λ (c : Cell). Below c rest) (sym at) (sorted_head cell_order k (keys_of rest) h.left));
+    only = λ x is. elim (Contains-push_cases list y x is) [
+        inl old ↦ ((h.only x old).0, gone o k s rest h.left (cell x) (h.only x old).1)
+      | inr new ↦ (subst P new p, subst (λ (z : X). lookup (is_at (cell_order (cell z))) rest ≡ None) new
+          (none_after o k s rest h.left (cell y) (subst (λ (c : Cell). same_cell c k ≡ true) (sym at) itself))) ];
+    every = λ x p' e. by_cases (same_cell (cell x) k)
+        (λ is. subst (λ (z : X). Contains (list ++ y ∷ []) z) (one x (apart (cell x) k is) p') (Contains-push list y))
+        (λ is. Contains-append_left list (y ∷ []) x (h.every x p' (look k s rest (cell x) is e)));
+  }
+
+  pub list_end : (rest : List (Cell × S)) (list : List X) → rest ≡ [] → Listed order cell P rest list → Lists order list P
+  list_end rest list e h =
+      let done : Listed order cell P [] list = subst (λ (r : List (Cell × S)). Listed order cell P r list) e h in
+      record {ascends = done.ascends; only = λ x is. (done.only x is).0; every = λ x p. done.every x p refl}
