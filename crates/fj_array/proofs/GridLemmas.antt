@@ -71,3 +71,23 @@ module _ {S C V : Type 0} (plain : List C → V) (effect_of : List C → Option 
       (subst (λ (l : List C). stands state (of_cell cell base) l) (sym (of_cell-append cell delta more)) (does (of_cell cell base) (of_cell cell delta) (of_cell cell more) (h cell) e))
       (λ q is. refl)
       (λ q is. sym (of_cell-append q delta more ∙ ap (λ (l : List C). of_cell q delta ++ l) (agree q is) ∙ append-nil (of_cell q delta)))
+
+  -- a cell of a grid that was forked
+  abbrev pub Forks : Option S → Option S → Type 0
+  Forks parent child = (base delta : List C) → CellStands plain effect_of stands parent base delta → CellStands plain effect_of stands child (base ++ delta) []
+
+  -- a cell of a grid into which one was joined
+  abbrev pub Joins : Option S → Option S → Option S → Type 0
+  Joins old child new = (base delta before after : List C) → CellStands plain effect_of stands old base delta → CellStands plain effect_of stands child before after
+      → CellStands plain effect_of stands new base (delta ++ after)
+
+  pub forks_stands : (parent child : List (Cell × S)) → ((q : Cell) → Forks (kept_at parent q) (kept_at child q)) → (base delta : List (At C))
+      → GridStands plain effect_of stands parent base delta → GridStands plain effect_of stands child (base ++ delta) []
+  forks_stands parent child forks base delta h q =
+      subst (λ (l : List C). CellStands plain effect_of stands (kept_at child q) l []) (sym (of_cell-append q base delta)) (forks q (of_cell q base) (of_cell q delta) (h q))
+
+  pub joins_stands : (old child new : List (Cell × S)) → ((q : Cell) → Joins (kept_at old q) (kept_at child q) (kept_at new q)) → (base delta before after : List (At C))
+      → GridStands plain effect_of stands old base delta → GridStands plain effect_of stands child before after → GridStands plain effect_of stands new base (delta ++ after)
+  joins_stands old child new joins base delta before after h k q =
+      subst (λ (l : List C). CellStands plain effect_of stands (kept_at new q) (of_cell q base) l) (sym (of_cell-append q delta after))
+      (joins q (of_cell q base) (of_cell q delta) (of_cell q before) (of_cell q after) (h q) (k q))

@@ -12,7 +12,11 @@ use Rattle.std.proofs.lemmas.Map.Keys.{sorted_head, sorted_tail}
 use Rattle.std.proofs.lemmas.List.Elements.{Contains-push, Contains-push_cases, Contains-append_left}
 use Rattle.cloud_base.specs.Sorted.{Lists}
 use Rattle.fj_array.specs.declared.cell.Cell.{Cell}
-use Rattle.fj_array.specs.Cells.{cell_order, same_cell}
+use Rattle.cloud_base.specs.declared.key.Key.{Key}
+use Rattle.fj_core.specs.declared.effect.Effect.{Effect}
+use Rattle.fj_array.specs.declared.cell.CellEffect.{CellEffect}
+use Rattle.fj_array.specs.Effects.{cell_of}
+use Rattle.fj_array.specs.Cells.{cell_order, same_cell, At, of_cell}
 use Rattle.fj_array.proofs.GridLemmas.{Apart, by_cases}
 use Rattle.fj_array.proofs.WalkLemmas.{none_after}
 
@@ -100,3 +104,14 @@ module _ {S X : Type 0} (order : X → X → Ordering) (cell : X → Cell) (P : 
   list_end rest list e h =
       let done : Listed order cell P [] list = subst (λ (r : List (Cell × S)). Listed order cell P r list) e h in
       record {ascends = done.ascends; only = λ x is. (done.only x is).0; every = λ x p. done.every x p refl}
+
+-- what `entries` lists: key lists whose cell hasn't its default
+abbrev pub entry_cell : ℕ → List Key → Cell
+entry_cell property keys = record {property = property; keys = keys}
+
+abbrev pub IsEntry : {C V : Type 0} → (List C → V) → ℕ → List (At C) → List Key → Type 0
+IsEntry plain property log keys = plain (of_cell (entry_cell property keys) log) ≡ plain [] → ⊥
+
+-- what `effects` lists
+abbrev pub IsEffect : {C : Type 0} → (List C → Option Effect) → List (At C) → CellEffect → Type 0
+IsEffect effect_of delta it = effect_of (of_cell (cell_of it) delta) ≡ Some it.effect
