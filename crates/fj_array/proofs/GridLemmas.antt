@@ -9,7 +9,13 @@ use Rattle.fj_array.specs.declared.cell.Cell.{Cell}
 use Rattle.std.specs.Ordering.{is_eq}
 use Rattle.std.specs.Cmp.{IsTotalOrder}
 use Rattle.std.proofs.lemmas.Cmp.{tied_itself}
-use Rattle.fj_array.specs.Cells.{cell_order, same_cell, At, of_cell}
+use Rattle.std.specs.Prelude.{not}
+use Rattle.std.specs.List.{filter}
+use Rattle.std.specs.Map.{lookup}
+use Rattle.std.specs.BTreeMap.{is_at}
+use Rattle.std.proofs.lemmas.Map.Entries.{lookup-filter-keys}
+use Rattle.cloud_base.specs.Values.{Id}
+use Rattle.fj_array.specs.Cells.{cell_order, same_cell, At, of_cell, has_id_lem, without}
 use Rattle.fj_array.specs.Grids.{kept_at, IsIdle, CellStands, GridStands, Puts, AgreeElsewhere}
 use Rattle.fj_array.proofs.CellLemmas.{IsLawful, of_cell-append, of_cell-one, of_cell-other}
 
@@ -27,6 +33,39 @@ by_cases false f g = g refl
 
 pub same_itself : IsTotalOrder cell_order → (cell : Cell) → same_cell cell cell ≡ true
 same_itself o cell = ap is_eq (tied_itself o cell)
+
+of_cell-cond : {C : Type 0} (q : Cell) (keep : Bool) (u : At C) (log : List (At C))
+    → of_cell q (cond keep (u ∷ log) log) ≡ cond keep (cond (same_cell u.cell q) (u.change ∷ of_cell q log) (of_cell q log)) (of_cell q log)
+of_cell-cond q true u log = refl
+of_cell-cond q false u log = refl
+
+without_step : {C : Type 0} (b keep h : Bool) (x : C) (xs ys : List C) → (b ≡ true → keep ≡ h) → ys ≡ cond h xs [] → cond keep (cond b (x ∷ ys) ys) ys ≡ cond h (cond b (x ∷ xs) xs) []
+without_step true true true x xs ys e is = ap (λ l. x ∷ l) is
+without_step true true false x xs ys e is = let no : true ≡ false = e refl in cc
+without_step true false true x xs ys e is = let no : false ≡ true = e refl in cc
+without_step true false false x xs ys e is = is
+without_step false true true x xs ys e is = is
+without_step false true false x xs ys e is = is
+without_step false false true x xs ys e is = is
+without_step false false false x xs ys e is = is
+
+-- the changes of one cell in a log without those of the purged
+of_cell-without : {C : Type 0} → Apart → (id : Id) (q : Cell) (log : List (At C)) → of_cell q (without id log) ≡ cond (not (has_id_lem id q.keys)) (of_cell q log) []
+of_cell-without apart id q [] = nothing (not (has_id_lem id q.keys))
+  where
+    nothing : {C : Type 0} (b : Bool) → ◌≡◌ {A = List C} [] (cond b [] [])
+    nothing true = refl
+    nothing false = refl
+of_cell-without apart id q (u ∷ log) =
+    of_cell-cond q (not (has_id_lem id u.cell.keys)) u (without id log)
+    ∙ without_step (same_cell u.cell q) (not (has_id_lem id u.cell.keys)) (not (has_id_lem id q.keys)) u.change (of_cell q log) (of_cell q (without id log))
+      (λ is. ap (λ (c : Cell). not (has_id_lem id c.keys)) (apart u.cell q is)) (of_cell-without apart id q log)
+
+kept_filtered : {S : Type 0} → Apart → (id : Id) (q : Cell) (cells : List (Cell × S))
+    → kept_at (filter (λ e. not (has_id_lem id e.0.keys)) cells) q ≡ cond (not (has_id_lem id q.keys)) (kept_at cells q) None
+kept_filtered apart id q cells =
+    lookup-filter-keys (is_at (cell_order q)) (λ (k : Cell). not (has_id_lem id k.keys)) (not (has_id_lem id q.keys))
+    (λ k is. sym (ap (λ (c : Cell). not (has_id_lem id c.keys)) (apart q k is))) cells
 
 module _ {S C V : Type 0} (plain : List C → V) (effect_of : List C → Option Effect) (stands : S → List C → List C → Type 0) where
   -- one cell is put, and the logs agree elsewhere
@@ -91,3 +130,18 @@ module _ {S C V : Type 0} (plain : List C → V) (effect_of : List C → Option 
   joins_stands old child new joins base delta before after h k q =
       subst (λ (l : List C). CellStands plain effect_of stands (kept_at new q) (of_cell q base) l) (sym (of_cell-append q delta after))
       (joins q (of_cell q base) (of_cell q delta) (of_cell q before) (of_cell q after) (h q) (k q))
+
+  -- the cells that were purged
+  pub purge_stands : effect_of [] ≡ None → Apart → (id : Id) (old new : List (Cell × S)) → new ≡ filter (λ e. not (has_id_lem id e.0.keys)) old
+      → (base delta : List (At C)) → GridStands plain effect_of stands old base delta → GridStands plain effect_of stands new (without id base) (without id delta)
+  purge_stands empty apart id old new is base delta h q =
+      subst (λ (l : List C). CellStands plain effect_of stands (kept_at new q) l (of_cell q (without id delta))) (sym (of_cell-without apart id q base))
+      (subst (λ (l : List C). CellStands plain effect_of stands (kept_at new q) (cond (not (has_id_lem id q.keys)) (of_cell q base) []) l) (sym (of_cell-without apart id q delta))
+      (subst (λ (o : Option S). CellStands plain effect_of stands o (cond (not (has_id_lem id q.keys)) (of_cell q base) []) (cond (not (has_id_lem id q.keys)) (of_cell q delta) []))
+          (sym (ap (λ (l : List (Cell × S)). kept_at l q) is ∙ kept_filtered apart id q old))
+          (either (not (has_id_lem id q.keys)) (h q))))
+    where
+      either : (b : Bool) → CellStands plain effect_of stands (kept_at old q) (of_cell q base) (of_cell q delta)
+          → CellStands plain effect_of stands (cond b (kept_at old q) None) (cond b (of_cell q base) []) (cond b (of_cell q delta) [])
+      either true held = held
+      either false held = (refl, empty)

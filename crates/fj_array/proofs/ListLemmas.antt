@@ -18,7 +18,15 @@ use Rattle.fj_array.specs.declared.cell.CellEffect.{CellEffect}
 use Rattle.fj_array.specs.Effects.{cell_of}
 use Rattle.fj_array.specs.Cells.{cell_order, same_cell, At, of_cell}
 use Rattle.fj_array.proofs.GridLemmas.{Apart, by_cases}
+use Rattle.fj_array.specs.Grids.{kept_at, IsIdle, CellStands, GridStands}
+use Rattle.fj_array.proofs.CellLemmas.{of_cell-append}
+use Rattle.fj_array.proofs.GridLemmas.{when_some, when_none}
 use Rattle.fj_array.proofs.WalkLemmas.{none_after}
+use Rattle.cloud_base.specs.Order.{keys_order}
+use Rattle.fj_array.specs.Effects.{effect_order}
+use Rattle.std.specs.Prelude.{IsTrue}
+use Rattle.std.specs.Ordering.{ordering_then, nat_cmp}
+use Rattle.std.proofs.lemmas.Cmp.{nat_cmp_total, tied_itself}
 
 -- the keys of the entries are above a cell
 abbrev pub Below : {S : Type 0} → Cell → List (Cell × S) → Type 0
@@ -115,3 +123,69 @@ IsEntry plain property log keys = plain (of_cell (entry_cell property keys) log)
 -- what `effects` lists
 abbrev pub IsEffect : {C : Type 0} → (List C → Option Effect) → List (At C) → CellEffect → Type 0
 IsEffect effect_of delta it = effect_of (of_cell (cell_of it) delta) ≡ Some it.effect
+
+module _ {S C V : Type 0} (plain : List C → V) (effect_of : List C → Option Effect) (stands : S → List C → List C → Type 0) (cells : List (Cell × S)) (base delta : List (At C)) where
+  default_unkept : (cell : Cell) → GridStands plain effect_of stands cells base delta → kept_at cells cell ≡ None → plain (of_cell cell (base ++ delta)) ≡ plain []
+  default_unkept cell h none =
+      ap plain (of_cell-append cell base delta) ∙ (when_none plain effect_of stands (kept_at cells cell) (of_cell cell base) (of_cell cell delta) (sym none) (h cell)).0
+
+  pub entries_start : (property : ℕ) → IsStrictlySortedBy cell_order (keys_of cells) → GridStands plain effect_of stands cells base delta
+      → Listed keys_order (entry_cell property) (IsEntry plain property (base ++ delta)) cells []
+  entries_start property sorted h =
+      list_start keys_order (entry_cell property) (IsEntry plain property (base ++ delta)) cells sorted
+      (λ keys entry none. entry (default_unkept (entry_cell property keys) h none))
+
+  -- a kept state that says whether its value is the default
+  pub default_kept : (cell : Cell) (s : S) (r : Bool) → GridStands plain effect_of stands cells base delta → kept_at cells cell ≡ Some s
+      → ((before after : List C) → stands s before after → IsTrue r ↔ (plain (before ++ after) ≡ plain []))
+      → IsTrue r ↔ (plain (of_cell cell (base ++ delta)) ≡ plain [])
+  default_kept cell s r h some says =
+      let said = says (of_cell cell base) (of_cell cell delta) (when_some plain effect_of stands (kept_at cells cell) s (of_cell cell base) (of_cell cell delta) (sym some) (h cell)).0 in
+      (λ e. ap plain (of_cell-append cell base delta) ∙ said.0 e, λ e. said.1 (sym (ap plain (of_cell-append cell base delta)) ∙ e))
+
+  pub effects_start : IsStrictlySortedBy cell_order (keys_of cells) → GridStands plain effect_of stands cells base delta
+      → Listed effect_order cell_of (IsEffect effect_of delta) cells []
+  effects_start sorted h =
+      list_start effect_order cell_of (IsEffect effect_of delta) cells sorted
+      (λ it is none.
+          let idle = when_none plain effect_of stands (kept_at cells (cell_of it)) (of_cell (cell_of it) base) (of_cell (cell_of it) delta) (sym none) (h (cell_of it)) in
+          none_not_some it.effect (sym idle.1 ∙ is))
+    where
+      none_not_some : (e : Effect) → None ≡ Some e → ⊥
+      none_not_some e is = cc
+
+  -- a kept state that says what was done to it
+  pub effect_kept : (cell : Cell) (s : S) (r : Option Effect) → GridStands plain effect_of stands cells base delta → kept_at cells cell ≡ Some s
+      → ((before after : List C) → stands s before after → r ≡ effect_of after) → r ≡ effect_of (of_cell cell delta)
+  effect_kept cell s r h some says =
+      says (of_cell cell base) (of_cell cell delta) (when_some plain effect_of stands (kept_at cells cell) s (of_cell cell base) (of_cell cell delta) (sym some) (h cell)).0
+
+-- cells of one property by their keys
+pub less_keys : ((a b : Cell) → cell_order a b ≡ ordering_then (nat_cmp a.property b.property) (keys_order a.keys b.keys)) → (property : ℕ) (a b : List Key)
+    → cell_order (entry_cell property a) (entry_cell property b) ≡ Less → keys_order a b ≡ Less
+less_keys by_parts property a b less =
+    sym (by_parts (entry_cell property a) (entry_cell property b) ∙ ap (λ (r : Ordering). ordering_then r (keys_order a b)) (tied_itself nat_cmp_total property)) ∙ less
+
+-- a cell has one effect
+pub same_effect_of : {C : Type 0} (effect_of : List C → Option Effect) (delta : List (At C)) (it other : CellEffect) → cell_of it ≡ cell_of other
+    → IsEffect effect_of delta it → IsEffect effect_of delta other → it ≡ other
+same_effect_of effect_of delta it other same a b =
+    let e : Some it.effect ≡ Some other.effect = sym a ∙ ap (λ (q : Cell). effect_of (of_cell q delta)) same ∙ b in
+    let f : it.effect ≡ other.effect = cc in
+    let p : it.property ≡ other.property = ap (λ (q : Cell). q.property) same in
+    let k : it.keys ≡ other.keys = ap (λ (q : Cell). q.keys) same in
+    by_fields it other p k f
+  where
+    by_fields : (it other : CellEffect) → it.property ≡ other.property → it.keys ≡ other.keys → it.effect ≡ other.effect → it ≡ other
+    by_fields it other p k f =
+        ap (λ (x : ℕ). let y : CellEffect = record {property = x; keys = it.keys; effect = it.effect} in y) p
+        ∙ ap (λ (x : List Key). let y : CellEffect = record {property = other.property; keys = x; effect = it.effect} in y) k
+        ∙ ap (λ (x : Effect). let y : CellEffect = record {property = other.property; keys = other.keys; effect = x} in y) f
+
+pub no_effect_of : {C : Type 0} (effect_of : List C → Option Effect) (delta : List (At C)) (it : CellEffect) (k : Cell) → cell_of it ≡ k
+    → None ≡ effect_of (of_cell k delta) → IsEffect effect_of delta it → ⊥
+no_effect_of effect_of delta it k same none is =
+    none_not_some it.effect (none ∙ sym (ap (λ (q : Cell). effect_of (of_cell q delta)) same) ∙ is)
+  where
+    none_not_some : (e : Effect) → None ≡ Some e → ⊥
+    none_not_some e is = cc

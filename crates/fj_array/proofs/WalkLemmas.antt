@@ -67,6 +67,20 @@ module _ {S : Type 0} where
       at_start None f g = f refl
       at_start (Some s) f g = g s refl
 
+  -- a walk that only looks
+  abbrev pub Looked : List (Cell × S) → List (Cell × S) → Type 0
+  Looked cells rest = Walked rest (λ q s. kept_at cells q ≡ Some s) (λ q. Unit {0})
+
+  pub look_start : (cells : List (Cell × S)) → IsStrictlySortedBy cell_order (keys_of cells) → Looked cells cells
+  look_start cells sorted = (sorted, λ (q : Cell). all_to_do cells q (Unit {0}) (λ s. kept_at cells q ≡ Some s) (λ none. tt) (λ s some. some))
+
+  pub look_step : Apart → IsTotalOrder cell_order → (cells : List (Cell × S)) (k : Cell) (s : S) (rest : List (Cell × S)) → Looked cells ((k, s) ∷ rest) → Looked cells rest
+  look_step apart o cells k s rest =
+      walk_step apart o k s rest (λ q t. kept_at cells q ≡ Some t) (λ q t. kept_at cells q ≡ Some t) (λ q. Unit {0}) (λ q. Unit {0}) (λ t. tt) (λ q t is h. h) (λ q is h. h)
+
+  pub look_here : IsTotalOrder cell_order → (cells : List (Cell × S)) (k : Cell) (s : S) (rest : List (Cell × S)) → Looked cells ((k, s) ∷ rest) → kept_at cells k ≡ Some s
+  look_here o cells k s rest = walk_head o k s rest (λ q t. kept_at cells q ≡ Some t) (λ q. Unit {0})
+
   -- a copy, cell by cell
   pub copy_step : Apart → IsTotalOrder cell_order → (source made made' : List (Cell × S)) (k : Cell) (s : S) (rest : List (Cell × S))
       → kept_at made' k ≡ Some s → ((q : Cell) → same_cell k q ≡ false → kept_at made' q ≡ kept_at made q)
