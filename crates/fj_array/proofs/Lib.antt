@@ -1,0 +1,4 @@
+pub mod CellLemmas
+pub mod GridLemmas
+pub mod WalkLemmas
+pub mod ListLemmas

@@ -1,0 +1,275 @@
+// A grid of cells, by property and keys.
+ghost use Rattle.std.specs.Prelude.{◌≡◌, ◌≢◌, ◌↔◌, List, [], ◌∷◌, ◌++◌, Some, None, false, true, IsTrue, OnOk, OnErr, IfOk};
+ghost use Rattle.cloud_base.specs.Order.{keys_order};
+ghost use Rattle.cloud_base.specs.Sorted.{Lists};
+ghost use Rattle.cloud_base.specs.declared.key.Key.{Key};
+ghost use Rattle.fj_array.specs.declared.cell.Cell.{Cell};
+ghost use Rattle.fj_array.specs.declared.cell.CellEffect.{CellEffect};
+ghost use Rattle.fj_array.specs.Cells.{At, of_cell, is_id_lem, has_id_lem, without};
+ghost use Rattle.fj_array.specs.Effects.{cell_of, effect_order};
+ghost use Rattle.fj_array.specs.Grids.{kept_at, IsIdle, CellStands, GridStands, Puts, AgreeElsewhere};
+
+use crate::cell::{Cell, CellEffect, EffectList};
+use crate::laws::cell_orders;
+use cloud_base::{Key, Keys, Memory, Sequence, TupleList, Uid};
+use fj_core::{Effect, ForkJoin};
+use std::alloc::Global;
+use std::collections::BTreeMap;
+use std::marker::Model;
+
+/// The cells of all properties of one cell type.
+///
+/// It stands for a log after a log, as each of its cells does for the changes of that cell. A cell with
+/// its default to which nothing was done isn't kept. After a refusal for memory a grid is as it was.
+#[derive(Drop)]
+pub struct Grid<C: ForkJoin> {
+    cells: BTreeMap<Cell, C>,
+    alloc: Global,
+}
+
+impl<C: ForkJoin> Model for Grid<C> {
+    ghost use Rattle.std.specs.Prelude.{List};
+    ghost use Rattle.fj_array.specs.declared.cell.Cell.{Cell};
+
+    ghost Value = { List (Cell × C) };
+
+    ghost view = { λ g. g.cells.entries };
+}
+
+/// Whether a cell has its default and nothing was done to it.
+fn is_idle<C: ForkJoin>(state: &C) -> bool
+    ensures { (base delta : List C.Change) → C.stands state.now base delta
+        → (IsTrue result ↔ IsIdle C.plain C.effect_of base delta) }
+{
+    state.is_default() && state.effect().is_none()
+}
+
+impl<C: ForkJoin> Grid<C> {
+    pub fn new(alloc: Global) -> Grid<C>
+        ensures empty { result ≡ [] }
+        ensures stands { GridStands C.plain C.effect_of C.stands result [] [] }
+    {
+        Grid {
+            cells: BTreeMap::new(alloc),
+            alloc,
+        }
+    }
+
+    /// The value of a cell.
+    pub fn ask(&self, property: u16, keys: &Keys) -> C::Value
+        ensures { (base delta : List (At C.Change)) → GridStands C.plain C.effect_of C.stands self.now base delta
+            → result ≡ C.plain (of_cell (record { property = property; keys = keys.now }) (base ++ delta)) }
+    {
+        let cell = Cell {
+            property,
+            keys: keys.copied(),
+        };
+        match self.cells.get(&cell) {
+            Some(state) => state.ask(),
+            None => {
+                let fresh: C = C::fresh();
+                fresh.ask()
+            }
+        }
+    }
+
+    /// The state of a cell, also where it isn't kept.
+    fn state_of(&self, cell: &Cell) -> C
+        ensures { (base delta : List C.Change)
+            → CellStands C.plain C.effect_of C.stands (kept_at self.now cell.now) base delta
+            → C.stands result base delta }
+    {
+        match self.cells.get(cell) {
+            Some(state) => state.copied(),
+            None => C::fresh(),
+        }
+    }
+
+    /// Keeps a state for a cell, unless it is idle.
+    fn keep(&mut self, cell: Cell, state: C) -> Result<(), Memory>
+        ensures ok { OnOk result (Puts C.plain C.effect_of C.stands cell state self.old self.new) }
+        ensures err { OnErr result (self.new ≡ self.old) }
+    {
+        if is_idle(&state) {
+            self.cells.remove(&cell);
+        } else {
+            self.cells.insert(cell, state)?;
+        }
+        Ok(())
+    }
+
+    /// Does one change more.
+    pub fn update(
+        &mut self,
+        property: u16,
+        keys: &Keys,
+        change: &C::Change,
+    ) -> Result<(), Memory>
+        ensures ok { OnOk result ((base delta : List (At C.Change)) → GridStands C.plain C.effect_of C.stands self.old base delta
+            → GridStands C.plain C.effect_of C.stands self.new base
+                (delta ++ record { cell = record { property = property; keys = keys.now }; change = change.now } ∷ [])) }
+        ensures err { OnErr result (self.new ≡ self.old) }
+    {
+        cell_orders();
+        let cell = Cell {
+            property,
+            keys: keys.copied(),
+        };
+        let mut state = self.state_of(&cell);
+        state.update(change);
+        self.keep(cell, state)
+    }
+
+    /// Makes a cell one of this value that is untouched, and leaves all others as they are.
+    pub fn put(&mut self, property: u16, keys: &Keys, value: C::Value) -> Result<(), Memory>
+        ensures ok { OnOk result ((base delta before after : List (At C.Change)) → GridStands C.plain C.effect_of C.stands self.old base delta
+            → let cell : Cell = record { property = property; keys = keys.now } in
+                C.plain (of_cell cell before) ≡ value → of_cell cell after ≡ []
+                → AgreeElsewhere cell base before → AgreeElsewhere cell delta after
+                → GridStands C.plain C.effect_of C.stands self.new before after) }
+        ensures err { OnErr result (self.new ≡ self.old) }
+    {
+        cell_orders();
+        let cell = Cell {
+            property,
+            keys: keys.copied(),
+        };
+        let state: C = C::of_value(value);
+        self.keep(cell, state)
+    }
+
+    /// Does to a cell whatever has this effect, and leaves all others as they are.
+    pub fn join_effect(
+        &mut self,
+        property: u16,
+        keys: &Keys,
+        effect: &Effect,
+    ) -> Result<(), Memory>
+        requires { C.is_own effect.now }
+        ensures ok { OnOk result ((base delta more : List (At C.Change)) → GridStands C.plain C.effect_of C.stands self.old base delta
+            → let cell : Cell = record { property = property; keys = keys.now } in
+                C.effect_of (of_cell cell more) ≡ Some effect.now → AgreeElsewhere cell more []
+                → GridStands C.plain C.effect_of C.stands self.new base (delta ++ more)) }
+        ensures err { OnErr result (self.new ≡ self.old) }
+    {
+        cell_orders();
+        let cell = Cell {
+            property,
+            keys: keys.copied(),
+        };
+        let mut state = self.state_of(&cell);
+        state.join_effect(effect);
+        self.keep(cell, state)
+    }
+
+    /// A grid with the same states.
+    fn copied(&self) -> Result<Grid<C>, Memory>
+        ensures { IfOk result (λ copy. (q : Cell) → kept_at copy q ≡ kept_at self.now q) }
+    {
+        cell_orders();
+        let mut copy: Grid<C> = Grid::new(self.alloc);
+        for (cell, state) in &self.cells {
+            copy.cells.insert(cell.copied(), state.copied())?;
+        }
+        Ok(copy)
+    }
+
+    /// A grid that begins where this one is.
+    pub fn fork(&self) -> Result<Grid<C>, Memory>
+        ensures { IfOk result (λ child. (base delta : List (At C.Change)) → GridStands C.plain C.effect_of C.stands self.now base delta
+            → GridStands C.plain C.effect_of C.stands child (base ++ delta) []) }
+    {
+        cell_orders();
+        let mut child: Grid<C> = Grid::new(self.alloc);
+        for (cell, state) in &self.cells {
+            child.keep(cell.copied(), state.fork())?;
+        }
+        Ok(child)
+    }
+
+    /// Does what the child did since it was forked, whatever it was forked from.
+    pub fn join(&mut self, child: &Grid<C>) -> Result<(), Memory>
+        ensures ok { OnOk result ((base delta before after : List (At C.Change)) → GridStands C.plain C.effect_of C.stands self.old base delta
+            → GridStands C.plain C.effect_of C.stands child.now before after
+            → GridStands C.plain C.effect_of C.stands self.new base (delta ++ after)) }
+        ensures err { OnErr result (self.new ≡ self.old) }
+    {
+        *self = self.joined(child)?;
+        Ok(())
+    }
+
+    fn joined(&self, child: &Grid<C>) -> Result<Grid<C>, Memory>
+        ensures { IfOk result (λ joined. (base delta before after : List (At C.Change)) → GridStands C.plain C.effect_of C.stands self.now base delta
+            → GridStands C.plain C.effect_of C.stands child.now before after
+            → GridStands C.plain C.effect_of C.stands joined base (delta ++ after)) }
+    {
+        cell_orders();
+        let mut joined = self.copied()?;
+        for (cell, theirs) in &child.cells {
+            let mut state = joined.state_of(cell);
+            state.join(theirs);
+            joined.keep(cell.copied(), state)?;
+        }
+        Ok(joined)
+    }
+
+    /// Drops each cell that has the id among its keys.
+    pub fn purge(&mut self, id: Uid)
+        ensures { (base delta : List (At C.Change)) → GridStands C.plain C.effect_of C.stands self.old base delta
+            → GridStands C.plain C.effect_of C.stands self.new (without id base) (without id delta) }
+    {
+        cell_orders();
+        self.cells.retain(|cell, _| !has_id(&cell.keys, id));
+    }
+
+    /// The key lists of a property whose value isn't the default, in order.
+    pub fn entries(&self, property: u16) -> Result<TupleList, Memory>
+        ensures { IfOk result (λ list. (base delta : List (At C.Change)) → GridStands C.plain C.effect_of C.stands self.now base delta
+            → Lists keys_order list (λ keys. C.plain (of_cell (record { property = property; keys = keys }) (base ++ delta)) ≢ C.plain [])) }
+    {
+        cell_orders();
+        let mut list = Sequence::new(self.alloc);
+        for (cell, state) in &self.cells {
+            if cell.property == property && !state.is_default() {
+                list.push(cell.keys.copied())?;
+            }
+        }
+        Ok(list)
+    }
+
+    /// What was done to each cell since the fork, where that is something, by property and then keys.
+    pub fn effects(&self) -> Result<EffectList, Memory>
+        ensures { IfOk result (λ list. (base delta : List (At C.Change)) → GridStands C.plain C.effect_of C.stands self.now base delta
+            → Lists effect_order list (λ it. C.effect_of (of_cell (cell_of it) delta) ≡ Some it.effect)) }
+    {
+        cell_orders();
+        let mut list = Sequence::new(self.alloc);
+        for (cell, state) in &self.cells {
+            if let Some(effect) = state.effect() {
+                list.push(CellEffect {
+                    property: cell.property,
+                    keys: cell.keys.copied(),
+                    effect,
+                })?;
+            }
+        }
+        Ok(list)
+    }
+}
+
+/// Whether a key is this id.
+fn is_id(key: &Key, id: Uid) -> bool
+    ensures { result ≡ is_id_lem id key.now }
+{
+    match key {
+        Key::Ref(other) => *other == id,
+        _ => false,
+    }
+}
+
+/// Whether an id is one of the keys.
+fn has_id(keys: &Keys, id: Uid) -> bool
+    ensures { result ≡ has_id_lem id keys.now }
+{
+    keys.as_slice().iter().any(|key| is_id(key, id))
+}
