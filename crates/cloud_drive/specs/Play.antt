@@ -1,5 +1,5 @@
 -- One act of a run, and what the player has where the run is.
-use Rattle.std.specs.Prelude.{◌≡◌, ℕ, Bool, List, [], ◌∷◌, ◌++◌, length, Option, option_map, IfSome}
+use Rattle.std.specs.Prelude.{◌≡◌, Bool, List, [], ◌∷◌, ◌++◌, option_map, IfSome}
 use Rattle.cloud_base.specs.Answer.{answer}
 use Rattle.cloud_base.specs.declared.schema.Schema.{Schema}
 use Rattle.cloud_base.specs.declared.update.Update.{Update}
@@ -24,9 +24,9 @@ after_act run (Change global operation amount) further = after_update run (updat
 after_act run (Print global) further = run
 after_act run Yield further = after_yield run further
 
--- The player has the run's revisions and so many globals. The server's cells stand for what was pushed, the
--- current ones for what was done since, after that, and the received ones for what was pushed.
-pub record Follows (player : Player) (count : ℕ) (run : Run) : Type 0 where
+-- The player has the run's revisions. The server's cells stand for what was pushed, the current ones for what
+-- was done since, after that, and the received ones for what was pushed.
+pub record Follows (player : Player) (run : Run) : Type 0 where
   pub standing : player.standing ≡ run.standing
   pub received : option_map (λ r. r.revision) player.received ≡ run.received
   pub next : player.next ≡ run.next
@@ -36,6 +36,3 @@ pub record Follows (player : Player) (count : ℕ) (run : Run) : Type 0 where
   pub server : CellsStand player.server [] pushed
   pub current : CellsStand player.current pushed since
   pub waiting : IfSome player.received (λ r. CellsStand r.globals pushed [])
-  pub server_count : length player.server ≡ count
-  pub current_count : length player.current ≡ count
-  pub received_count : IfSome player.received (λ r. length r.globals ≡ count)

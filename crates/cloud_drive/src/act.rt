@@ -1,7 +1,9 @@
 // What the player does at an act.
-ghost use Rattle.std.specs.Prelude.{◌≡◌, ℕ, ◌+◌, ◌^◌, ◌<◌, ◌≤◌, List, [], ◌∷◌, ◌++◌, length, if◌then◌else◌, Option, Some, None, option_map, unwrap_or, IfOk, IfSome, OnOk};
+ghost use Rattle.std.specs.Prelude.{◌≡◌, ◌+◌, ◌^◌, ◌<◌, ◌≤◌, List, [], ◌∷◌, ◌++◌, Bool, length, if◌then◌else◌, Option, Some, None, option_map, unwrap_or, IfOk, IfSome, OnOk};
 ghost use Rattle.std.specs.Option.{ForSome};
+ghost use Rattle.cloud_base.specs.declared.update.Query.TheVariants.{Get};
 ghost use Rattle.cloud_base.specs.declared.update.Update.{Update};
+ghost use Rattle.cloud_base.specs.declared.update.Update.TheVariants.{Cell};
 ghost use Rattle.cloud_parse.specs.Form.{Form, ActFits};
 ghost use Rattle.revision_diagram.specs.declared.step.Step.TheVariants.{Fork};
 ghost use Rattle.one_client.specs.Program.{schema_of, change_of};
@@ -19,7 +21,8 @@ use std::alloc::Global;
 
 // A client of so many globals: a fork of the server gave its first revision.
 pub fn start(alloc: Global, count: usize) -> Result<Player, Memory>
-    ensures follows { IfOk result (λ player. Follows player count first_run) }
+    ensures follows { IfOk result (λ player. Follows player first_run) }
+    ensures count { IfOk result (λ player. length player.current ≡ count) }
     ensures steps { IfOk result (λ player. player.steps ≡ Fork 0 0 ∷ []) }
     ensures next { IfOk result (λ player. player.next ≡ 2) }
 {
@@ -47,43 +50,83 @@ fn int_change(operation: Operation, amount: Amount) -> IntChange
     }
 }
 
-fn cell_change(change: IntChange) -> CellChange
-    ensures { result ≡ to_change change }
+fn update_of(global: u16, change: IntChange) -> Update
+    ensures { result ≡ Cell global [] (to_change change) }
 {
     match change {
-        IntChange::Add(number) => CellChange::Add(number),
-        IntChange::Set(number) => CellChange::SetInt(number),
+        IntChange::Add(number) => Update::Cell(global, Keys::empty(), CellChange::Add(number)),
+        IntChange::Set(number) => Update::Cell(global, Keys::empty(), CellChange::SetInt(number)),
     }
 }
 
-fn change(player: Player, global: u16, operation: Operation, amount: Amount) -> Result<Player, Memory>
-    requires { ActFits (length player.current) (Act.Change global operation amount) }
-    ensures run { IfOk result (λ after. (f : Form) (count : ℕ) (run : Run) (further : Bool) → Follows player count run
-        → Follows after count (after_act run (Act.Change global operation amount) further)
+fn query_of(global: u16) -> Query
+    ensures { result ≡ Get global [] }
+{
+    Query::Get(global, Keys::empty())
+}
+
+fn change(
+    player: Player,
+    global: u16,
+    operation: Operation,
+    amount: Amount,
+) -> Result<Player, Memory>
+    requires fits { ActFits (length player.current) (Act.Change global operation amount) }
+    ensures run { IfOk result (λ after. (f : Form) (run : Run) (further : Bool) → Follows player run
+        → Follows after (after_act run (Act.Change global operation amount) further)
         × (after.steps ≡ player.steps ++ act_steps (schema_of f) run (Act.Change global operation amount) further)) }
+    ensures count { IfOk result (λ after. length after.current ≡ length player.current) }
     ensures next { IfOk result (λ after. after.next ≡ player.next) }
 {
-    let Player { server, mut current, received, standing, next, mut steps } = player;
+    let Player {
+        server,
+        mut current,
+        received,
+        standing,
+        next,
+        mut steps,
+    } = player;
     let change = int_change(operation, amount);
-    let update = Update::Cell(global, Keys::empty(), cell_change(change));
-    steps.push(Step::Do(standing, update))?;
+    steps.push(Step::Do(standing, update_of(global, change)))?;
     current.update(global, &change);
-    Ok(Player { server, current, received, standing, next, steps })
+    Ok(Player {
+        server,
+        current,
+        received,
+        standing,
+        next,
+        steps,
+    })
 }
 
 fn print(player: Player, global: u16) -> Result<Player, Memory>
     requires { global < length player.current }
-    ensures run { IfOk result (λ after. (f : Form) (count : ℕ) (run : Run) (further : Bool) → Follows player count run
-        → Follows after count (after_act run (Act.Print global) further)
+    ensures run { IfOk result (λ after. (f : Form) (run : Run) (further : Bool) → Follows player run
+        → Follows after (after_act run (Act.Print global) further)
         × (after.steps ≡ player.steps ++ act_steps (schema_of f) run (Act.Print global) further)) }
+    ensures count { IfOk result (λ after. length after.current ≡ length player.current) }
     ensures next { IfOk result (λ after. after.next ≡ player.next) }
 {
     answers_are_plain();
-    let Player { server, current, received, standing, next, mut steps } = player;
+    let Player {
+        server,
+        current,
+        received,
+        standing,
+        next,
+        mut steps,
+    } = player;
     let value = current.ask(global);
-    steps.push(Step::Ask(standing, Query::Get(global, Keys::empty()), Answer::Int(value)))?;
+    steps.push(Step::Ask(standing, query_of(global), Answer::Int(value)))?;
     steps.push(Step::Say(standing, Answer::Int(value)))?;
-    Ok(Player { server, current, received, standing, next, steps })
+    Ok(Player {
+        server,
+        current,
+        received,
+        standing,
+        next,
+        steps,
+    })
 }
 
 // The revision that has all that the client did and got: the received one, if there is one, with the
@@ -94,11 +137,12 @@ fn pulled(
     current: Globals,
     steps: &mut StepList,
 ) -> Result<Received, Memory>
-    requires { ForSome received (λ r. length current ≡ length r.globals) }
+    requires { ForSome received (λ r. length r.globals ≡ length current) }
     ensures steps { OnOk result (steps.new ≡ steps.old ++ pull standing (option_map (λ r. r.revision) received)) }
     ensures revision { IfOk result (λ p. p.revision ≡ unwrap_or (option_map (λ r. r.revision) received) standing) }
     ensures count { IfOk result (λ p. length p.globals ≡ length current) }
-    ensures stands { IfOk result (λ p. (pushed since : List Update) → CellsStand current pushed since → IfSome received (λ r. CellsStand r.globals pushed []) → CellsStand p.globals pushed since) }
+    ensures stands { IfOk result (λ p. (pushed since : List Update) → CellsStand current pushed since
+        → IfSome received (λ r. CellsStand r.globals pushed []) → CellsStand p.globals pushed since) }
 {
     match received {
         Some(Received { revision, mut globals }) => {
@@ -106,7 +150,10 @@ fn pulled(
             globals.join(&current);
             Ok(Received { revision, globals })
         }
-        None => Ok(Received { revision: standing, globals: current }),
+        None => Ok(Received {
+            revision: standing,
+            globals: current,
+        }),
     }
 }
 
@@ -120,8 +167,8 @@ fn receive(
 ) -> Result<Option<Received>, Memory>
     ensures steps { OnOk result (steps.new ≡ steps.old ++ (if further then Fork 0 0 ∷ [] else [])) }
     ensures revision { IfOk result (λ r. option_map (λ r. r.revision) r ≡ (if further then Some revision else None)) }
-    ensures count { IfOk result (λ r. IfSome r (λ r. length r.globals ≡ length server.now)) }
-    ensures stands { IfOk result (λ r. IfSome r (λ r. (log : List Update) → CellsStand server.now [] log → CellsStand r.globals log [])) }
+    ensures count { IfOk result (λ r. ForSome r (λ r. length r.globals ≡ length server.now)) }
+    ensures stands { IfOk result (λ r. (log : List Update) → CellsStand server.now [] log → IfSome r (λ r. CellsStand r.globals log [])) }
 {
     if !further {
         return Ok(None);
@@ -129,4 +176,62 @@ fn receive(
     steps.push(Step::Fork(0, 0))?;
     let globals = server.fork(alloc)?;
     Ok(Some(Received { revision, globals }))
+}
+
+// The next free number after a yield.
+fn next_after(next: u32, further: bool) -> u32
+    requires { next + 2 < 2 ^ 32 }
+    ensures { result ≡ next + (if further then 2 else 1) }
+{
+    if further { next + 2 } else { next + 1 }
+}
+
+fn meet(alloc: Global, player: Player, further: bool) -> Result<Player, Memory>
+    requires { player.next + 2 < 2 ^ 32 }
+    ensures run { IfOk result (λ after. (f : Form) (run : Run) → Follows player run
+        → Follows after (after_act run Act.Yield further)
+        × (after.steps ≡ player.steps ++ act_steps (schema_of f) run Act.Yield further)) }
+    ensures count { IfOk result (λ after. length after.current ≡ length player.current) }
+    ensures next { IfOk result (λ after. after.next ≤ player.next + 2) }
+{
+    let Player {
+        mut server,
+        current,
+        received,
+        standing,
+        next,
+        mut steps,
+    } = player;
+    steps.push(Step::Mark(standing, false))?;
+    let Received { revision, globals } = pulled(received, standing, current, &mut steps)?;
+    steps.push(Step::Fork(revision, 0))?;
+    steps.push(Step::Join(0, revision))?;
+    server.join(&globals);
+    let current = globals.fork(alloc)?;
+    let received = receive(alloc, &server, further, next + 1, &mut steps)?;
+    Ok(Player {
+        server,
+        current,
+        received,
+        standing: next,
+        next: next_after(next, further),
+        steps,
+    })
+}
+
+/// One act. The flag says that a further yield comes.
+pub fn act(alloc: Global, player: Player, act: Act, further: bool) -> Result<Player, Memory>
+    requires fits { ActFits (length player.current) act }
+    requires room { player.next + 2 < 2 ^ 32 }
+    ensures run { IfOk result (λ after. (f : Form) (run : Run) → Follows player run
+        → Follows after (after_act run act further)
+        × (after.steps ≡ player.steps ++ act_steps (schema_of f) run act further)) }
+    ensures count { IfOk result (λ after. length after.current ≡ length player.current) }
+    ensures next { IfOk result (λ after. after.next ≤ player.next + 2) }
+{
+    match act {
+        Act::Change(global, operation, amount) => change(player, global, operation, amount),
+        Act::Print(global) => print(player, global),
+        Act::Yield => meet(alloc, player, further),
+    }
 }

@@ -2,4 +2,7 @@
 #![tactic(auto)]
 
 mod act;
+mod play_tree;
 mod player;
+
+pub use play_tree::{BUDGET, play, steps};

@@ -1,4 +1,7 @@
 // The states of one client and of the server, and the steps so far.
+ghost use Rattle.std.specs.Prelude.{◌≡◌, length};
+ghost use Rattle.std.specs.Option.{ForSome};
+
 use global_cells::Globals;
 use revision_diagram::StepList;
 
@@ -10,7 +13,7 @@ pub struct Received {
 }
 
 // The run of one client. `standing` is the client's revision, with the state `current`, and `next` the
-// next free number of a revision.
+// next free number of a revision. Each state has a cell for each global.
 #[derive(Drop)]
 pub struct Player {
     pub server: Globals,
@@ -19,4 +22,6 @@ pub struct Player {
     pub standing: u32,
     pub next: u32,
     pub steps: StepList,
+    ghost even_server: { length server ≡ length current },
+    ghost even_received: { ForSome received (λ r. length r.globals ≡ length current) },
 }

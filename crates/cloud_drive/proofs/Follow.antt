@@ -1,0 +1,33 @@
+-- What a player follows, after an act.
+use Rattle.std.proofs.Common.{◌≡◌, ℕ, ◌+◌, Bool, true, false, cond, List, [], ◌∷◌, ◌++◌, refl, ap, sym, ◌∙◌, append_assoc, append-nil, arith, zero, suc}
+use Rattle.std.specs.Prelude.{Option, Some, None, map}
+use Rattle.cloud_base.specs.Shaped.{cell_type}
+use Rattle.cloud_base.specs.declared.schema.CellType.TheVariants.{Int}
+use Rattle.cloud_base.specs.declared.update.Update.{Update}
+use Rattle.cloud_parse.specs.Form.{Form}
+use Rattle.revision_diagram.specs.declared.step.Step.{Step}
+use Rattle.one_client.specs.Program.{global_property, schema_of}
+
+-- a global has an integer's cell
+int_by : (names : List (List ℕ)) (global : ℕ) → cell_type record { properties = map global_property names; entities = [] } global ≡ Int
+int_by [] global = refl
+int_by (name ∷ names) zero = refl
+int_by (name ∷ names) (suc global) = int_by names global
+
+pub globals_are_ints : (f : Form) (global : ℕ) → cell_type (schema_of f) global ≡ Int
+globals_are_ints f global = int_by f.globals global
+
+-- one update more in a log of two parts
+pub one_longer : (log pushed since : List Update) (update : Update) → log ≡ pushed ++ since → log ++ update ∷ [] ≡ pushed ++ (since ++ update ∷ [])
+one_longer log pushed since update h = ap (λ l. l ++ update ∷ []) h ∙ append_assoc pushed since (update ∷ [])
+
+-- the steps of a yield, one after another
+pub five_parts : (steps pulled forked : List Step) (mark fork join : Step)
+    → ((((steps ++ mark ∷ []) ++ pulled) ++ fork ∷ []) ++ join ∷ []) ++ forked ≡ steps ++ (mark ∷ (pulled ++ (fork ∷ join ∷ forked)))
+five_parts steps pulled forked mark fork join = simp append_assoc
+
+pub two_parts : (steps : List Step) (ask say : Step) → (steps ++ ask ∷ []) ++ say ∷ [] ≡ steps ++ ask ∷ say ∷ []
+two_parts steps ask say = simp append_assoc
+
+pub next_number : (n m : ℕ) (further : Bool) → n ≡ m → cond further (Some (n + 1)) None ≡ cond further (Some (m + 1)) None
+next_number n m further h = ap (λ k. cond further (Some (k + 1)) None) h

@@ -1,0 +1,38 @@
+use Rattle.std.proofs.Common.{◌≡◌, ◌∷◌, [], ◌++◌, ◌∙◌, ap, sym}
+use Rattle.cloud_base.specs.Answer.{answer}
+use Rattle.cloud_base.specs.declared.update.Answer.{Answer}
+use Rattle.cloud_base.specs.declared.update.Answer.TheVariants.{Int}
+use Rattle.revision_diagram.specs.declared.step.Step.TheVariants.{Ask, Say}
+use Rattle.fj_core.specs.IntCells.{int_plain}
+use Rattle.one_client.specs.Program.{schema_of, query_of}
+use Rattle.global_cells.specs.Cells.{changes_of}
+use Rattle.cloud_drive.proofs.Follow.{two_parts, globals_are_ints}
+use Rattle.cloud_drive.proofs.act.print.Goals as goal
+
+pub returns-clause-run : goal.returns-clause-run
+returns-clause-run c f run further h =
+    let global = c.args.global in
+    let steps = c.args.player.steps in
+    let value : Answer = Int c.ask-value.result in
+    let right : value ≡ answer (schema_of f) run.log (query_of global) =
+        ap Int (c.ask-value.ensures h.pushed h.since h.current ∙ ap (λ log. int_plain (changes_of global log)) (sym h.log))
+        ∙ sym (c.answers_are_plain.ensures (schema_of f) run.log global (globals_are_ints f global)) in
+    (
+      record {
+        standing = h.standing;
+        received = h.received;
+        next = h.next;
+        pushed = h.pushed;
+        since = h.since;
+        log = h.log;
+        server = h.server;
+        current = h.current;
+        waiting = h.waiting;
+      },
+      c.in_ok-push-2.ensures.ok
+          ∙ ap (λ s. s ++ Say c.args.player.standing value ∷ []) c.in_ok-push.ensures.ok
+          ∙ two_parts steps (Ask c.args.player.standing c.query_of.result value) (Say c.args.player.standing value)
+          ∙ ap (λ r. steps ++ Ask r c.query_of.result value ∷ Say r value ∷ []) h.standing
+          ∙ ap (λ q. steps ++ Ask run.standing q value ∷ Say run.standing value ∷ []) c.query_of.ensures
+          ∙ ap (λ v. steps ++ Ask run.standing (query_of global) v ∷ Say run.standing v ∷ []) right,
+    )
