@@ -1,5 +1,5 @@
 -- One act of a run, and what the player has where the run is.
-use Rattle.std.specs.Prelude.{◌≡◌, Bool, List, [], ◌∷◌, ◌++◌, option_map, IfSome}
+use Rattle.std.specs.Prelude.{◌≡◌, ℕ, ◌+◌, if◌then◌else◌, Bool, List, [], ◌∷◌, ◌++◌, option_map, IfSome}
 use Rattle.cloud_base.specs.Answer.{answer}
 use Rattle.cloud_base.specs.declared.schema.Schema.{Schema}
 use Rattle.cloud_base.specs.declared.update.Update.{Update}
@@ -8,9 +8,14 @@ use Rattle.cloud_parse.specs.declared.tree.Act.TheVariants.{Change, Print, Yield
 use Rattle.revision_diagram.specs.declared.step.Step.{Step}
 use Rattle.revision_diagram.specs.declared.step.Step.TheVariants.{Do, Ask, Say}
 use Rattle.one_client.specs.Program.{update_of, query_of}
-use Rattle.one_client.specs.Steps.{Run, yield_steps, after_yield, after_update}
+use Rattle.one_client.specs.Steps.{Run, is_yield, yield_steps, after_yield, after_update}
 use Rattle.global_cells.specs.Cells.{CellsStand}
 use Rattle.cloud_drive.specs.declared.player.Player.{Player}
+
+-- how many of the acts are yields
+abbrev pub yields_in : List Act → ℕ
+yields_in [] = 0
+yields_in (act ∷ acts) = if is_yield act then 1 + yields_in acts else yields_in acts
 
 -- the steps of one act; the flag says that a further yield comes
 abbrev pub act_steps : Schema → Run → Act → Bool → List Step

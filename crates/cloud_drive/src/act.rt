@@ -1,5 +1,5 @@
 // What the player does at an act.
-ghost use Rattle.std.specs.Prelude.{◌≡◌, ◌+◌, ◌^◌, ◌<◌, ◌≤◌, List, [], ◌∷◌, ◌++◌, Bool, length, if◌then◌else◌, Option, Some, None, option_map, unwrap_or, IfOk, IfSome, OnOk};
+ghost use Rattle.std.specs.Prelude.{◌≡◌, ◌+◌, ◌^◌, ◌<◌, ◌≤◌, List, [], ◌∷◌, ◌++◌, false, length, if◌then◌else◌, Option, Some, None, option_map, unwrap_or, IfOk, IfSome, OnOk};
 ghost use Rattle.std.specs.Option.{ForSome};
 ghost use Rattle.cloud_base.specs.declared.update.Query.TheVariants.{Get};
 ghost use Rattle.cloud_base.specs.declared.update.Update.{Update};
@@ -72,9 +72,9 @@ fn change(
     amount: Amount,
 ) -> Result<Player, Memory>
     requires fits { ActFits (length player.current) (Act.Change global operation amount) }
-    ensures run { IfOk result (λ after. (f : Form) (run : Run) (further : Bool) → Follows player run
-        → Follows after (after_act run (Act.Change global operation amount) further)
-        × (after.steps ≡ player.steps ++ act_steps (schema_of f) run (Act.Change global operation amount) further)) }
+    ensures run { IfOk result (λ after. (f : Form) (run : Run) → Follows player run
+        → Follows after (after_act run (Act.Change global operation amount) false)
+        × (after.steps ≡ player.steps ++ act_steps (schema_of f) run (Act.Change global operation amount) false)) }
     ensures count { IfOk result (λ after. length after.current ≡ length player.current) }
     ensures next { IfOk result (λ after. after.next ≡ player.next) }
 {
@@ -101,9 +101,9 @@ fn change(
 
 fn print(player: Player, global: u16) -> Result<Player, Memory>
     requires { global < length player.current }
-    ensures run { IfOk result (λ after. (f : Form) (run : Run) (further : Bool) → Follows player run
-        → Follows after (after_act run (Act.Print global) further)
-        × (after.steps ≡ player.steps ++ act_steps (schema_of f) run (Act.Print global) further)) }
+    ensures run { IfOk result (λ after. (f : Form) (run : Run) → Follows player run
+        → Follows after (after_act run (Act.Print global) false)
+        × (after.steps ≡ player.steps ++ act_steps (schema_of f) run (Act.Print global) false)) }
     ensures count { IfOk result (λ after. length after.current ≡ length player.current) }
     ensures next { IfOk result (λ after. after.next ≡ player.next) }
 {
@@ -145,7 +145,12 @@ fn pulled(
         → IfSome received (λ r. CellsStand r.globals pushed []) → CellsStand p.globals pushed since) }
 {
     match received {
-        Some(Received { revision, mut globals }) => {
+        Some(
+            Received {
+                revision,
+                mut globals,
+            },
+        ) => {
             steps.push(Step::Join(revision, standing))?;
             globals.join(&current);
             Ok(Received { revision, globals })

@@ -1,10 +1,11 @@
 // Playing a tree: its steps and its report.
-ghost use Rattle.std.specs.Prelude.{◌≡◌, ◌≤◌, ◌∷◌, length, IfOk};
-ghost use Rattle.std.specs.List.{AllByRecursion, count_by};
+ghost use Rattle.std.specs.Prelude.{◌≡◌, ◌-◌, ◌≤◌, ◌∷◌, length, if◌then◌else◌, IfOk};
+ghost use Rattle.std.specs.List.{AllByRecursion};
 ghost use Rattle.cloud_parse.specs.Form.{Form, ActFits};
 ghost use Rattle.revision_diagram.specs.declared.step.Step.TheVariants.{Fork};
 ghost use Rattle.one_client.specs.Program.{budget, cost, begun, end_of, schema_of};
 ghost use Rattle.one_client.specs.Steps.{first_run, is_yield, steps_from, steps_of, report_of};
+ghost use Rattle.cloud_drive.specs.Play.{yields_in};
 
 use crate::act::{act, start};
 use cloud_base::{CellType, End, Memory, Owner, Property, Schema, Sequence};
@@ -28,6 +29,7 @@ fn cost(act: Act) -> u32
 }
 
 // The acts that begin: one that is to begin where no turn is left ends the run.
+#[tactic(auto, using(crate::proofs::Begun::begun_out))]
 fn begun(acts: &[Act]) -> &[Act]
     ensures { result.now ≡ begun budget acts.now }
 {
@@ -51,9 +53,20 @@ fn is_yield(act: Act) -> bool
 }
 
 fn count_yields(acts: &[Act]) -> usize
-    ensures { result ≡ count_by is_yield acts.now }
+    ensures { result ≡ yields_in acts.now }
 {
     acts.iter().filter(|act| is_yield(**act)).count()
+}
+
+// The yields that are left after an act.
+fn left_after(yields: usize, act: Act) -> usize
+    ensures { result ≡ (if is_yield act then yields - 1 else yields) }
+{
+    if is_yield(act) {
+        yields.saturating_sub(1)
+    } else {
+        yields
+    }
 }
 
 // Each global is a property with integer cells and no keys.
@@ -84,15 +97,14 @@ fn play_acts(alloc: Global, count: usize, acts: &[Act]) -> Result<StepList, Memo
     let mut player = start(alloc, count)?;
     let mut yields = count_yields(acts);
     for next in acts {
-        if is_yield(*next) {
-            yields -= 1;
-        }
+        yields = left_after(yields, *next);
         player = act(alloc, player, *next, yields > 0)?;
     }
     Ok(player.steps)
 }
 
 /// The steps of the run of a tree.
+#[tactic(auto, using(crate::proofs::Begun::begun_few, crate::proofs::Begun::begun_fit))]
 pub fn steps(alloc: Global, tree: &Tree) -> Result<StepList, Memory>
     ensures { IfOk result (λ steps. steps ≡ steps_of tree.now) }
 {
@@ -117,5 +129,11 @@ pub fn play(alloc: Global, tree: &Tree) -> Result<Vec<u8>, Memory>
     let schema = schema_of(alloc, tree)?;
     let steps = steps(alloc, tree)?;
     let end = end_of(tree);
-    report(alloc, &schema, slice::from_ref(tree.client()), steps.as_slice(), slice::from_ref(&end))
+    report(
+        alloc,
+        &schema,
+        slice::from_ref(tree.client()),
+        steps.as_slice(),
+        slice::from_ref(&end),
+    )
 }

@@ -8,10 +8,9 @@ use Rattle.cloud_drive.proofs.Follow.{one_longer}
 use Rattle.cloud_drive.proofs.act.change.Goals as goal
 
 pub returns-clause-run : goal.returns-clause-run
-returns-clause-run c f run further h =
+returns-clause-run c f run h =
     let global = c.args.global in
-    let update = update_of global c.args.operation c.args.amount in
-    (
+    let update = update_of global c.args.operation c.args.amount in (
       record {
         standing = h.standing;
         received = h.received;

@@ -11,14 +11,13 @@ returns-clause-run c f run h =
     let player = c.args.player in
     let further = c.args.further in
     let forked = cond further (Fork 0 0 ∷ []) [] in
-    let revision = c.in_ok-revision.revision in
+    let revision = c.in_ok-revision.field-0.revision in
     let joins = pull player.standing (option_map (λ r. r.revision) player.received) in
-    let joined : CellsStand c.in_ok-revision.globals h.pushed h.since = c.in_ok-revision.ensures.stands h.pushed h.since h.current h.waiting in
+    let joined : CellsStand c.in_ok-revision.field-0.globals h.pushed h.since = c.in_ok-revision.ensures.stands h.pushed h.since h.current h.waiting in
     let server : CellsStand c.join.new.self [] (h.pushed ++ h.since) = c.join.ensures.stands [] h.pushed h.pushed h.since h.server joined in
     let is_pulled : revision ≡ pulled run =
-        c.in_ok-revision.ensures.revision ∙ ap (λ o. unwrap_or o player.standing) h.received ∙ ap (λ r. unwrap_or run.received r) h.standing in
-    let same_joins : joins ≡ pull run.standing run.received = ap (λ o. pull player.standing o) h.received ∙ ap (λ r. pull r run.received) h.standing in
-    (
+    c.in_ok-revision.ensures.revision ∙ ap (λ o. unwrap_or o player.standing) h.received ∙ ap (λ r. unwrap_or run.received r) h.standing in
+    let same_joins : joins ≡ pull run.standing run.received = ap (λ o. pull player.standing o) h.received ∙ ap (λ r. pull r run.received) h.standing in (
       record {
         standing = h.next;
         received = c.in_ok-received.ensures.revision ∙ next_number player.next run.next further h.next;

@@ -1,4 +1,4 @@
-use Rattle.std.proofs.Common.{◌≡◌, ◌∷◌, [], ◌++◌, ◌∙◌, ap, sym}
+use Rattle.std.proofs.Common.{◌≡◌, ◌∷◌, [], ◌++◌, ◌∙◌, ap, sym, rules, to_z, of_z, w64}
 use Rattle.cloud_base.specs.Answer.{answer}
 use Rattle.cloud_base.specs.declared.update.Answer.{Answer}
 use Rattle.cloud_base.specs.declared.update.Answer.TheVariants.{Int}
@@ -10,14 +10,15 @@ use Rattle.cloud_drive.proofs.Follow.{two_parts, globals_are_ints}
 use Rattle.cloud_drive.proofs.act.print.Goals as goal
 
 pub returns-clause-run : goal.returns-clause-run
-returns-clause-run c f run further h =
+returns-clause-run c f run h =
     let global = c.args.global in
     let steps = c.args.player.steps in
     let value : Answer = Int c.ask-value.result in
+    let held : Answer = Int (to_z w64 (of_z w64 c.ask-value.result)) in
+    let same : held ≡ value = search rules in
     let right : value ≡ answer (schema_of f) run.log (query_of global) =
-        ap Int (c.ask-value.ensures h.pushed h.since h.current ∙ ap (λ log. int_plain (changes_of global log)) (sym h.log))
-        ∙ sym (c.answers_are_plain.ensures (schema_of f) run.log global (globals_are_ints f global)) in
-    (
+    ap Int (c.ask-value.ensures h.pushed h.since h.current ∙ ap (λ log. int_plain (changes_of global log)) (sym h.log))
+    ∙ sym (c.answers_are_plain.ensures (schema_of f) run.log global (globals_are_ints f global)) in (
       record {
         standing = h.standing;
         received = h.received;
@@ -30,7 +31,8 @@ returns-clause-run c f run further h =
         waiting = h.waiting;
       },
       c.in_ok-push-2.ensures.ok
-          ∙ ap (λ s. s ++ Say c.args.player.standing value ∷ []) c.in_ok-push.ensures.ok
+          ∙ ap (λ v. c.push.new.self ++ Say c.args.player.standing v ∷ []) same
+          ∙ ap (λ s. s ++ Say c.args.player.standing value ∷ []) (c.in_ok-push.ensures.ok ∙ ap (λ v. steps ++ Ask c.args.player.standing c.query_of.result v ∷ []) same)
           ∙ two_parts steps (Ask c.args.player.standing c.query_of.result value) (Say c.args.player.standing value)
           ∙ ap (λ r. steps ++ Ask r c.query_of.result value ∷ Say r value ∷ []) h.standing
           ∙ ap (λ q. steps ++ Ask run.standing q value ∷ Say run.standing value ∷ []) c.query_of.ensures
