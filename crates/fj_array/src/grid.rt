@@ -4,12 +4,13 @@ ghost use Rattle.cloud_base.specs.Order.{keys_order};
 ghost use Rattle.cloud_base.specs.Sorted.{Lists};
 ghost use Rattle.cloud_base.specs.declared.key.Key.{Key};
 ghost use Rattle.fj_array.specs.declared.cell.Cell.{Cell};
-ghost use Rattle.fj_array.specs.declared.cell.CellEffect.{CellEffect};
+ghost use Rattle.fj_array.specs.declared.effect.CellEffect.{CellEffect};
 ghost use Rattle.fj_array.specs.Cells.{At, of_cell, is_id_lem, has_id_lem, without};
 ghost use Rattle.fj_array.specs.Effects.{cell_of, effect_order};
 ghost use Rattle.fj_array.specs.Grids.{kept_at, IsIdle, CellStands, GridStands, Puts, AgreeElsewhere};
 
-use crate::cell::{Cell, CellEffect, EffectList};
+use crate::cell::Cell;
+use crate::effect::{CellEffect, EffectList};
 use crate::laws::cell_orders;
 use cloud_base::{Key, Keys, Memory, Sequence, TupleList, Uid};
 use fj_core::{Effect, ForkJoin};
@@ -42,6 +43,14 @@ fn is_idle<C: ForkJoin>(state: &C) -> bool
         → (IsTrue result ↔ IsIdle C.plain C.effect_of base delta) }
 {
     state.is_default() && state.effect().is_none()
+}
+
+/// Whether a cell has another value than its default.
+fn is_set<C: ForkJoin>(state: &C) -> bool
+    ensures { (base delta : List C.Change) → C.stands state.now base delta
+        → (IsTrue result ↔ (C.plain (base ++ delta) ≢ C.plain [])) }
+{
+    !state.is_default()
 }
 
 impl<C: ForkJoin> Grid<C> {
@@ -99,15 +108,10 @@ impl<C: ForkJoin> Grid<C> {
     }
 
     /// Does one change more.
-    pub fn update(
-        &mut self,
-        property: u16,
-        keys: &Keys,
-        change: &C::Change,
-    ) -> Result<(), Memory>
+    pub fn update(&mut self, property: u16, keys: &Keys, change: &C::Change) -> Result<(), Memory>
         ensures ok { OnOk result ((base delta : List (At C.Change)) → GridStands C.plain C.effect_of C.stands self.old base delta
             → GridStands C.plain C.effect_of C.stands self.new base
-                (delta ++ record { cell = record { property = property; keys = keys.now }; change = change.now } ∷ [])) }
+            (delta ++ record { cell = record { property = property; keys = keys.now }; change = change.now } ∷ [])) }
         ensures err { OnErr result (self.new ≡ self.old) }
     {
         cell_orders();
@@ -124,9 +128,9 @@ impl<C: ForkJoin> Grid<C> {
     pub fn put(&mut self, property: u16, keys: &Keys, value: C::Value) -> Result<(), Memory>
         ensures ok { OnOk result ((base delta before after : List (At C.Change)) → GridStands C.plain C.effect_of C.stands self.old base delta
             → let cell : Cell = record { property = property; keys = keys.now } in
-                C.plain (of_cell cell before) ≡ value → of_cell cell after ≡ []
-                → AgreeElsewhere cell base before → AgreeElsewhere cell delta after
-                → GridStands C.plain C.effect_of C.stands self.new before after) }
+            C.plain (of_cell cell before) ≡ value → of_cell cell after ≡ []
+            → AgreeElsewhere cell base before → AgreeElsewhere cell delta after
+            → GridStands C.plain C.effect_of C.stands self.new before after) }
         ensures err { OnErr result (self.new ≡ self.old) }
     {
         cell_orders();
@@ -139,17 +143,12 @@ impl<C: ForkJoin> Grid<C> {
     }
 
     /// Does to a cell whatever has this effect, and leaves all others as they are.
-    pub fn join_effect(
-        &mut self,
-        property: u16,
-        keys: &Keys,
-        effect: &Effect,
-    ) -> Result<(), Memory>
+    pub fn join_effect(&mut self, property: u16, keys: &Keys, effect: &Effect) -> Result<(), Memory>
         requires { C.is_own effect.now }
         ensures ok { OnOk result ((base delta more : List (At C.Change)) → GridStands C.plain C.effect_of C.stands self.old base delta
             → let cell : Cell = record { property = property; keys = keys.now } in
-                C.effect_of (of_cell cell more) ≡ Some effect.now → AgreeElsewhere cell more []
-                → GridStands C.plain C.effect_of C.stands self.new base (delta ++ more)) }
+            C.effect_of (of_cell cell more) ≡ Some effect.now → AgreeElsewhere cell more []
+            → GridStands C.plain C.effect_of C.stands self.new base (delta ++ more)) }
         ensures err { OnErr result (self.new ≡ self.old) }
     {
         cell_orders();
@@ -230,7 +229,7 @@ impl<C: ForkJoin> Grid<C> {
         cell_orders();
         let mut list = Sequence::new(self.alloc);
         for (cell, state) in &self.cells {
-            if cell.property == property && !state.is_default() {
+            if cell.property == property && is_set(state) {
                 list.push(cell.keys.copied())?;
             }
         }
