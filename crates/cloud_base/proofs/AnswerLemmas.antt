@@ -82,11 +82,11 @@ untouched property keys (Cell p ks c ∷ log) n =
     let P : Bool → Type 0 = λ b. (Contains (cond b (ks ∷ touched property log) (touched property log)) keys → ⊥) → cond (b && same_keys ks keys) (c ∷ of_cell property keys log) (of_cell property keys log) ≡ [] in
     let Q : Bool → Type 0 = λ b. cond b (c ∷ of_cell property keys log) (of_cell property keys log) ≡ [] in
     let at : P (p == property) = elim (p == property) as P [
-      true ↦ λ m. elim (cases_Bool (same_keys ks keys)) [
-          inl t ↦ absurd (m (subst (Contains (ks ∷ touched property log)) ((same_keys_decides ks keys).0 t) (here ks (touched property log))))
+      | true ↦ λ m. elim (cases_Bool (same_keys ks keys)) [
+        | inl t ↦ absurd (m (subst (Contains (ks ∷ touched property log)) ((same_keys_decides ks keys).0 t) (here ks (touched property log))))
         | inr f ↦ subst Q (sym f) (untouched property keys log (λ k. m (there ks keys (touched property log) k)))
-        ]
-    | false ↦ λ m. untouched property keys log m
+      ]
+      | false ↦ λ m. untouched property keys log m
     ] in
     at n
 
@@ -95,20 +95,20 @@ still_default schema log property keys e =
     let type = cell_type schema property in
     let P : Bool → Type 0 = λ b. is_default (cond b (default_of type) (plain_value type (of_cell property keys log))) ≡ true in
     elim (has_dead log keys) as P [
-      true ↦ default_is_default type
-    | false ↦ ap (λ c. is_default (plain_value type c)) e ∙ default_is_default type
+      | true ↦ default_is_default type
+      | false ↦ ap (λ c. is_default (plain_value type c)) e ∙ default_is_default type
     ]
 
 entry_touched : (schema : Schema) (log : List Update) (property : ℕ) (keys : List Key) → is_entry schema log property keys ≡ true → Contains (touched property log) keys
 entry_touched schema log property keys h =
     let test : List Key → Bool = λ ks. same_keys ks keys in
     elim (cases_Bool (list_any test (touched property log))) [
-      inl t ↦ let w = some_member test (touched property log) t in subst (Contains (touched property log)) ((same_keys_decides w.0 keys).0 w.2) w.1
-    | inr f ↦
-        let absent : Contains (touched property log) keys → ⊥ = λ m. false≢true (sym f ∙ member_some test (touched property log) keys m ((same_keys_decides keys keys).1 refl)) in
-        let default = still_default schema log property keys (untouched property keys log absent) in
-        let parts = and_parts (not (has_dead log keys)) (not (is_default (cell_value schema log property keys))) h in
-        absurd (false≢true (ap not (sym default) ∙ parts.1))
+      | inl t ↦ let w = some_member test (touched property log) t in subst (Contains (touched property log)) ((same_keys_decides w.0 keys).0 w.2) w.1
+      | inr f ↦
+          let absent : Contains (touched property log) keys → ⊥ = λ m. false≢true (sym f ∙ member_some test (touched property log) keys m ((same_keys_decides keys keys).1 refl)) in
+          let default = still_default schema log property keys (untouched property keys log absent) in
+          let parts = and_parts (not (has_dead log keys)) (not (is_default (cell_value schema log property keys))) h in
+          absurd (false≢true (ap not (sym default) ∙ parts.1))
     ]
 
 pub entries_lists : (schema : Schema) (log : List Update) (property : ℕ) → Lists keys_order (entries schema log property) (λ keys. IsTrue (is_entry schema log property keys))

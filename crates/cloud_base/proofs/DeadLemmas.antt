@@ -24,16 +24,16 @@ use Rattle.cloud_base.proofs.LogLemmas.{deleted_member, member_deleted, created_
 pub some_member : {A : Type 0} (p : A → Bool) (xs : List A) → list_any p xs ≡ true → (x : A) × Contains xs x × (p x ≡ true)
 some_member p [] h = cc
 some_member p (x ∷ xs) h = elim (or_cases (p x) (list_any p xs) h) [
-    inl t ↦ (x, here x xs, t)
+  | inl t ↦ (x, here x xs, t)
   | inr t ↦ let w = some_member p xs t in (w.0, there x w.0 xs w.1, w.2)
-  ]
+]
 
 pub member_some : {A : Type 0} (p : A → Bool) (xs : List A) (x : A) → Contains xs x → p x ≡ true → list_any p xs ≡ true
 member_some p [] x h t = absurd (none_in x h)
 member_some p (y ∷ xs) x h t = elim (split_member y x xs h) [
-    inl e ↦ ap (λ b. b || list_any p xs) (ap p e ∙ t)
+  | inl e ↦ ap (λ b. b || list_any p xs) (ap p e ∙ t)
   | inr m ↦ ap (λ b. p y || b) (member_some p xs x m t) ∙ or_right (p y)
-  ]
+]
 
 -- ---- the test within n links meets the chains of at most n links
 
@@ -43,13 +43,13 @@ Within log n id = (m : ℕ) × (m ≤ n) × Chain log m id
 pub within_chain : (log : List Update) (n : ℕ) (id : Id) → dead_within n log id ≡ true → Within log n id
 within_chain log zero id h = (0, omega arith, h)
 within_chain log (suc n) id h = elim (or_cases (is_deleted id log) (list_any (dead_within n log) (parents log id)) h) [
-    inl t ↦ (0, omega arith, t)
+  | inl t ↦ (0, omega arith, t)
   | inr t ↦
       let w = some_member (dead_within n log) (parents log id) t in
       let r = within_chain log n w.0 w.2 in
       let l : r.0 ≤ n = r.1 in
       (suc r.0, omega arith, (w.0, w.1, r.2))
-  ]
+]
 
 pub chain_within : (log : List Update) (n m : ℕ) (id : Id) → m ≤ n → Chain log m id → dead_within n log id ≡ true
 chain_within log zero zero id h c = c
@@ -76,21 +76,21 @@ parents_without u id next log n h = subst (λ c. Contains (parents_of c) next) (
 avoid : (log : List Update) (u : Id) (n : ℕ) (id : Id) → Chain log n id → Avoids log u id
 avoid log u zero id c = inl (0, deleted_without u id log ∙ c)
 avoid log u (suc n) id c = elim (avoid log u n c.0 c.2) [
-    inr w ↦ inr w
+  | inr w ↦ inr w
   | inl w ↦ elim (cases_Bool (same_id u id)) [
-      inl t ↦ inr (c.0, w.0, subst (λ v. Contains (parents log v) c.0) (sym ((same_id_decides u id).0 t)) c.1, w.1)
+    | inl t ↦ inr (c.0, w.0, subst (λ v. Contains (parents log v) c.0) (sym ((same_id_decides u id).0 t)) c.1, w.1)
     | inr f ↦ inl (suc w.0, (c.0, parents_without u id c.0 log f c.1, w.1))
-    ]
   ]
+]
 
 lift : (log : List Update) (u : Id) (n : ℕ) (id : Id) → Chain (without u log) n id → Chain log n id
 lift log u zero id c = sym (deleted_without u id log) ∙ c
 lift log u (suc n) id c = elim (cases_Bool (same_id u id)) [
-    inl t ↦
+  | inl t ↦
       let none : creation id (without u log) ≡ None = subst (λ v. creation v (without u log) ≡ None) ((same_id_decides u id).0 t) (creation_without_itself u log) in
       absurd (none_in c.0 (subst (λ d. Contains (parents_of d) c.0) none c.1))
   | inr f ↦ (c.0, subst (λ d. Contains (parents_of d) c.0) (creation_without u id log f) c.1, lift log u n c.0 c.2)
-  ]
+]
 
 -- what has a parent was created
 made : (o : Option Creation) (next : Id) → Contains (parents_of o) next → (c : Creation) × (o ≡ Some c)
@@ -107,7 +107,7 @@ shorten (suc k) log (suc n) id h c =
     let w = made (creation id log) c.0 c.1 in
     let l : length (created (without id log)) < length (created log) = one_fewer id log w.0 w.1 in
     let onward : (next : Id) (m : ℕ) → Contains (parents log id) next → Chain (without id log) m next → Within log (suc k) id =
-      λ next m p d. let r = shorten k (without id log) m next (omega arith) d in let b : r.0 ≤ k = r.1 in (suc r.0, omega arith, (next, p, lift log id r.0 next r.2)) in
+    λ next m p d. let r = shorten k (without id log) m next (omega arith) d in let b : r.0 ≤ k = r.1 in (suc r.0, omega arith, (next, p, lift log id r.0 next r.2)) in
     elim (avoid log id n c.0 c.2) [ inl v ↦ onward c.0 v.0 c.1 v.1 | inr v ↦ onward v.0 v.1 v.2 v.3 ]
 
 pub dead_from_chain : (log : List Update) (n : ℕ) (id : Id) → Chain log n id → Dead log id
@@ -173,9 +173,9 @@ one_creation id log other None None e k f g once once' = refl
 deleted_same : (id : Id) (log other : List Update) (b : Bool) → is_deleted id log ≡ b → IsPart log other → IsPart other log → b ≡ is_deleted id other
 deleted_same id log other true e f g = sym (member_deleted id other (f (Delete id) (deleted_member id log e)))
 deleted_same id log other false e f g = elim (cases_Bool (is_deleted id other)) [
-    inl t ↦ absurd (false≢true (sym e ∙ member_deleted id log (g (Delete id) (deleted_member id other t))))
+  | inl t ↦ absurd (false≢true (sym e ∙ member_deleted id log (g (Delete id) (deleted_member id other t))))
   | inr h ↦ sym h
-  ]
+]
 
 pub alike_members : (log other : List Update) → CreatedOnce log → CreatedOnce other → IsPart log other → IsPart other log → ((property : ℕ) (keys : List Key) → of_cell property keys log ≡ of_cell property keys other) → Alike log other
 alike_members log other once once' f g changes = record {

@@ -22,8 +22,8 @@ deleted_member id (Create v e ks ∷ log) h = there (Create v e ks) (Delete id) 
 deleted_member id (Delete v ∷ log) h =
     let P : Bool → Type 0 = λ b. (same_id v id ≡ b) → (b || is_deleted id log) ≡ true → Contains (Delete v ∷ log) (Delete id) in
     let at : P (same_id v id) = elim (same_id v id) as P [
-      true ↦ λ e t. subst (λ w. Contains (Delete v ∷ log) (Delete w)) ((same_id_decides v id).0 e) (here (Delete v) log)
-    | false ↦ λ e t. there (Delete v) (Delete id) log (deleted_member id log t)
+      | true ↦ λ e t. subst (λ w. Contains (Delete v ∷ log) (Delete w)) ((same_id_decides v id).0 e) (here (Delete v) log)
+      | false ↦ λ e t. there (Delete v) (Delete id) log (deleted_member id log t)
     ] in
     at refl h
 
@@ -36,9 +36,9 @@ member_deleted id [] h = absurd (none_in (Delete id) h)
 member_deleted id (Cell p ks c ∷ log) h = elim (split_member (Cell p ks c) (Delete id) log h) [ inl e ↦ cc | inr m ↦ member_deleted id log m ]
 member_deleted id (Create v e' ks ∷ log) h = elim (split_member (Create v e' ks) (Delete id) log h) [ inl e ↦ cc | inr m ↦ member_deleted id log m ]
 member_deleted id (Delete v ∷ log) h = elim (split_member (Delete v) (Delete id) log h) [
-    inl e ↦ let s : v ≡ id = cc in let t : same_id v id ≡ true = (same_id_decides v id).1 s in ap (λ b. b || is_deleted id log) t
+  | inl e ↦ let s : v ≡ id = cc in let t : same_id v id ≡ true = (same_id_decides v id).1 s in ap (λ b. b || is_deleted id log) t
   | inr m ↦ ap (λ b. same_id v id || b) (member_deleted id log m) ∙ or_right (same_id v id)
-  ]
+]
 
 -- ---- creations
 
@@ -50,8 +50,8 @@ created_member id (Create v e ks ∷ log) c h =
     let first : Option Creation = Some (record { entity = e; keys = ks }) in
     let P : Bool → Type 0 = λ b. (same_id v id ≡ b) → cond b first (creation id log) ≡ Some c → Contains (Create v e ks ∷ log) (Create id c.entity c.keys) in
     let at : P (same_id v id) = elim (same_id v id) as P [
-      true ↦ λ t k. let s : v ≡ id = (same_id_decides v id).0 t in let r : record { entity = e; keys = ks } ≡ c = cc in subst (λ w. Contains (Create v e ks ∷ log) (Create w c.entity c.keys)) s (subst (λ (d : Creation). Contains (Create v e ks ∷ log) (Create v d.entity d.keys)) r (here (Create v e ks) log))
-    | false ↦ λ t k. there (Create v e ks) (Create id c.entity c.keys) log (created_member id log c k)
+      | true ↦ λ t k. let s : v ≡ id = (same_id_decides v id).0 t in let r : record { entity = e; keys = ks } ≡ c = cc in subst (λ w. Contains (Create v e ks ∷ log) (Create w c.entity c.keys)) s (subst (λ (d : Creation). Contains (Create v e ks ∷ log) (Create v d.entity d.keys)) r (here (Create v e ks) log))
+      | false ↦ λ t k. there (Create v e ks) (Create id c.entity c.keys) log (created_member id log c k)
     ] in
     at refl h
 
@@ -60,9 +60,9 @@ created_contains id entity keys [] h = absurd (none_in (Create id entity keys) h
 created_contains id entity keys (Cell p ks c ∷ log) h = elim (split_member (Cell p ks c) (Create id entity keys) log h) [ inl e ↦ cc | inr m ↦ created_contains id entity keys log m ]
 created_contains id entity keys (Delete v ∷ log) h = elim (split_member (Delete v) (Create id entity keys) log h) [ inl e ↦ cc | inr m ↦ created_contains id entity keys log m ]
 created_contains id entity keys (Create v e' ks ∷ log) h = elim (split_member (Create v e' ks) (Create id entity keys) log h) [
-    inl e ↦ let s : v ≡ id = cc in subst (Contains (v ∷ created log)) s (here v (created log))
+  | inl e ↦ let s : v ≡ id = cc in subst (Contains (v ∷ created log)) s (here v (created log))
   | inr m ↦ there v id (created log) (created_contains id entity keys log m)
-  ]
+]
 
 -- in a log that creates no id twice, each creation is the first one of its id
 pub member_created : (id : Id) (entity : ℕ) (keys : List Key) (log : List Update) → CreatedOnce log → Contains log (Create id entity keys) → creation id log ≡ Some (record { entity = entity; keys = keys })
@@ -72,12 +72,12 @@ member_created id entity keys (Delete v ∷ log) once h = elim (split_member (De
 member_created id entity keys (Create v e' ks ∷ log) once h =
     let Goal : Bool → Type 0 = λ b. cond b (Some (record { entity = e'; keys = ks })) (creation id log) ≡ Some (record { entity = entity; keys = keys }) in
     elim (split_member (Create v e' ks) (Create id entity keys) log h) [
-      inl e ↦
-        let s : v ≡ id = cc in let p : e' ≡ entity = cc in let q : ks ≡ keys = cc in
-        subst Goal (sym ((same_id_decides v id).1 s)) (λ i. Some (record { entity = p i; keys = q i }))
-    | inr m ↦ elim (cases_Bool (same_id v id)) [
-        inl t ↦ absurd (once.0 (subst (Contains (created log)) (sym ((same_id_decides v id).0 t)) (created_contains id entity keys log m)))
-      | inr f ↦ subst Goal (sym f) (member_created id entity keys log once.1 m)
+      | inl e ↦
+          let s : v ≡ id = cc in let p : e' ≡ entity = cc in let q : ks ≡ keys = cc in
+          subst Goal (sym ((same_id_decides v id).1 s)) (λ i. Some (record { entity = p i; keys = q i }))
+      | inr m ↦ elim (cases_Bool (same_id v id)) [
+        | inl t ↦ absurd (once.0 (subst (Contains (created log)) (sym ((same_id_decides v id).0 t)) (created_contains id entity keys log m)))
+        | inr f ↦ subst Goal (sym f) (member_created id entity keys log once.1 m)
       ]
     ]
 
@@ -130,8 +130,8 @@ creation_without u id (Create v e ks ∷ log) n =
     let P : Bool → Type 0 = λ b. same_id v u ≡ b → creation id (cond b (without u log) (Create v e ks ∷ without u log)) ≡ cond (same_id v id) first (creation id log) in
     let Q : Bool → Type 0 = λ b. creation id (without u log) ≡ cond b first (creation id log) in
     let at : P (same_id v u) = elim (same_id v u) as P [
-      true ↦ λ t. let other : same_id v id ≡ false = subst (λ w. same_id w id ≡ false) (sym ((same_id_decides v u).0 t)) n in subst Q (sym other) (creation_without u id log n)
-    | false ↦ λ t. ap (cond (same_id v id) first) (creation_without u id log n)
+      | true ↦ λ t. let other : same_id v id ≡ false = subst (λ w. same_id w id ≡ false) (sym ((same_id_decides v u).0 t)) n in subst Q (sym other) (creation_without u id log n)
+      | false ↦ λ t. ap (cond (same_id v id) first) (creation_without u id log n)
     ] in
     at refl
 

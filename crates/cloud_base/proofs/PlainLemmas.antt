@@ -82,13 +82,13 @@ more_adds (Add m ∷ changes) c h =
     let e = more_adds changes c h in
     let P : Bool → Type 0 = λ b. cond b (adds_after (changes ++ c ∷ [])) (m +ℤ adds_after (changes ++ c ∷ [])) ≡ cond b (adds_after changes) (m +ℤ adds_after changes) +ℤ part c in
     ap (λ b. cond b (adds_after (changes ++ c ∷ [])) (m +ℤ adds_after (changes ++ c ∷ []))) (keeps_set changes c h)
-      ∙ (elim (has_set changes) as P [ true ↦ e | false ↦ ap (λ z. m +ℤ z) e ∙ regroup m (adds_after changes) (part c) ])
+    ∙ (elim (has_set changes) as P [ true ↦ e | false ↦ ap (λ z. m +ℤ z) e ∙ regroup m (adds_after changes) (part c) ])
 
 int_more : (changes : List CellChange) (c : CellChange) → has_set (c ∷ []) ≡ false → last_set (c ∷ []) ≡ pos 0 → plain_int (changes ++ c ∷ []) ≡ int_wrap w64 (plain_int changes +ℤ part c)
 unfolding plain_int
 int_more changes c h z =
     ap (int_wrap w64) ((λ i. keeps_last changes c h z i +ℤ more_adds changes c h i) ∙ regroup (last_set changes) (adds_after changes) (part c))
-      ∙ sym (int_wrap-add_left w64 (last_set changes +ℤ adds_after changes) (part c))
+    ∙ sym (int_wrap-add_left w64 (last_set changes +ℤ adds_after changes) (part c))
 
 pub int_add : (changes : List CellChange) (n : ℤ) → plain_int (changes ++ Add n ∷ []) ≡ int_wrap w64 (plain_int changes +ℤ n)
 unfolding part
@@ -115,9 +115,9 @@ text_more changes c = walk_on [] changes (c ∷ [])
 int_same : (changes : List CellChange) (c : CellChange) → has_set (c ∷ []) ≡ false → last_set (c ∷ []) ≡ pos 0 → part c ≡ pos 0 → plain_int (changes ++ c ∷ []) ≡ plain_int changes
 int_same changes c h z p =
     int_more changes c h z
-      ∙ ap (λ n. int_wrap w64 (plain_int changes +ℤ n)) p
-      ∙ ap (int_wrap w64) (add_zero (plain_int changes))
-      ∙ int_wrap_fits w64 (plain_int changes) (int_fits changes)
+    ∙ ap (λ n. int_wrap w64 (plain_int changes +ℤ n)) p
+    ∙ ap (int_wrap w64) (add_zero (plain_int changes))
+    ∙ int_wrap_fits w64 (plain_int changes) (int_fits changes)
 
 pub int_text : (changes : List CellChange) (t : List ℕ) → (plain_int (changes ++ SetText t ∷ []) ≡ plain_int changes) × (plain_int (changes ++ SetIfEmpty t ∷ []) ≡ plain_int changes)
 unfolding part

@@ -40,8 +40,8 @@ kept p [] y h t = absurd (none_in y h)
 kept p (x ∷ xs) y h t =
     let P : Bool → Type 0 = λ b. Contains (cond b (x ∷ filter p xs) (filter p xs)) y in
     elim (split_member x y xs h) [
-      inl e ↦ subst P (sym t ∙ ap p (sym e)) (subst (λ z. Contains (x ∷ filter p xs) z) e (here x (filter p xs)))
-    | inr m ↦ let rest = kept p xs y m t in elim (p x) as P [ true ↦ there x y (filter p xs) rest | false ↦ rest ]
+      | inl e ↦ subst P (sym t ∙ ap p (sym e)) (subst (λ z. Contains (x ∷ filter p xs) z) e (here x (filter p xs)))
+      | inr m ↦ let rest = kept p xs y m t in elim (p x) as P [ true ↦ there x y (filter p xs) rest | false ↦ rest ]
     ]
 
 pub kept_member : {A : Type 0} (p : A → Bool) (xs : List A) (y : A) → Contains (filter p xs) y → Contains xs y
@@ -49,8 +49,8 @@ kept_member p [] y h = h
 kept_member p (x ∷ xs) y h =
     let P : Bool → Type 0 = λ b. Contains (cond b (x ∷ filter p xs) (filter p xs)) y → Contains (x ∷ xs) y in
     let at : P (p x) = elim (p x) as P [
-      true ↦ λ m. elim (split_member x y (filter p xs) m) [ inl e ↦ subst (Contains (x ∷ xs)) e (here x xs) | inr r ↦ there x y xs (kept_member p xs y r) ]
-    | false ↦ λ m. there x y xs (kept_member p xs y m)
+      | true ↦ λ m. elim (split_member x y (filter p xs) m) [ inl e ↦ subst (Contains (x ∷ xs)) e (here x xs) | inr r ↦ there x y xs (kept_member p xs y r) ]
+      | false ↦ λ m. there x y xs (kept_member p xs y m)
     ] in
     at h
 
@@ -120,9 +120,9 @@ module _ {A : Type 0} {R : A → A → Ordering} (total : IsTotalOrder R) where
   pub fold_from : (xs ks : List A) (y : A) → Contains (fold (insert_key R) ks xs) y → Contains ks y ⊎ Contains xs y
   fold_from [] ks y h = inl h
   fold_from (x ∷ xs) ks y h = elim (fold_from xs (insert_key R ks x) y h) [
-      inl m ↦ elim (inserted_from ks x y m) [ inl e ↦ inr (subst (Contains (x ∷ xs)) e (here x xs)) | inr n ↦ inl n ]
+    | inl m ↦ elim (inserted_from ks x y m) [ inl e ↦ inr (subst (Contains (x ∷ xs)) e (here x xs)) | inr n ↦ inl n ]
     | inr m ↦ inr (there x y xs m)
-    ]
+  ]
 
   not_below : (x : A) → R x x ≡ Less → ⊥
   not_below x e = let tied : R x x ≡ Equal = tied_itself total x in cc
@@ -135,9 +135,9 @@ module _ {A : Type 0} {R : A → A → Ordering} (total : IsTotalOrder R) where
     pub fold_puts : (xs ks : List A) (y : A) → Contains xs y → Contains (fold (insert_key R) ks xs) y
     fold_puts [] ks y h = absurd (none_in y h)
     fold_puts (x ∷ xs) ks y h = elim (split_member x y xs h) [
-        inl e ↦ subst (Contains (fold (insert_key R) ks (x ∷ xs))) e (fold_keeps xs (insert_key R ks x) x (inserted same ks x))
+      | inl e ↦ subst (Contains (fold (insert_key R) ks (x ∷ xs))) e (fold_keeps xs (insert_key R ks x) x (inserted same ks x))
       | inr m ↦ fold_puts xs (insert_key R ks x) y m
-      ]
+    ]
 
     heads_at : (r : Ordering) (x y : A) (xs ys : List A) → R x y ≡ r → AllByRecursion (λ z. R x z ≡ Less) xs → AllByRecursion (λ z. R y z ≡ Less) ys → Contains (y ∷ ys) x → Contains (x ∷ xs) y → x ≡ y
     heads_at Less x y xs ys e a b m n = elim (split_member y x ys m) [ inl p ↦ sym p | inr q ↦ absurd (not_below x (total.trans x y x e (above (λ z. R y z ≡ Less) ys x b q))) ]
@@ -146,9 +146,9 @@ module _ {A : Type 0} {R : A → A → Ordering} (total : IsTotalOrder R) where
 
     tail_has : (x : A) (xs ys : List A) → AllByRecursion (λ z. R x z ≡ Less) xs → ((z : A) → Contains (x ∷ xs) z → Contains (x ∷ ys) z) → (z : A) → Contains xs z → Contains ys z
     tail_has x xs ys a f z m = elim (split_member x z ys (f z (there x z xs m))) [
-        inl e ↦ absurd (not_below x (subst (λ w. R x w ≡ Less) (sym e) (above (λ w. R x w ≡ Less) xs z a m)))
+      | inl e ↦ absurd (not_below x (subst (λ w. R x w ≡ Less) (sym e) (above (λ w. R x w ≡ Less) xs z a m)))
       | inr n ↦ n
-      ]
+    ]
 
     -- two ascending lists of the same members are one
     pub same_ascending : (xs ys : List A) → IsStrictlySortedBy R xs → IsStrictlySortedBy R ys → ((z : A) → Contains xs z → Contains ys z) → ((z : A) → Contains ys z → Contains xs z) → xs ≡ ys

@@ -15,8 +15,8 @@ mod update;
 pub use batch::{Batch, BatchList, End, Stretch, Tail};
 pub use key::{Key, Keys, MOST_KEYS, Uid};
 pub use laws::{
-    alike_answers, answers_list, ascending_lists, dead_by_chains, dead_by_members, dead_grows, derived_orders,
-    get_depends_on, log_parts, plain_steps, total_orders,
+    alike_answers, answers_list, ascending_lists, dead_by_chains, dead_by_members, dead_grows,
+    derived_orders, get_depends_on, log_parts, plain_steps, total_orders,
 };
 pub use memory::Memory;
 pub use name::Name;

@@ -106,3 +106,25 @@ impl Text {
         Text { bytes }
     }
 }
+
+#[cfg(test)]
+mod tests {
+    use super::*;
+
+    #[test]
+    fn texts_are_cut_and_judged(rt: HostRuntime) {
+        let letters = [b'x'; 100];
+        match Text::new(&letters) {
+            Ok(text) => assert!(rt; text.cat(&text).as_slice() == [b'x'; 128].as_slice()),
+            Err(_) => assert!(rt; false),
+        }
+        match Text::new(&[b'x'; 129]) {
+            Err(TextFault::TooLong { len }) => assert_eq!(rt; len, 129),
+            _ => assert!(rt; false),
+        }
+        match Text::new(b"a~ \x7F\n") {
+            Err(TextFault::BadByte { at }) => assert_eq!(rt; at, 3),
+            _ => assert!(rt; false),
+        }
+    }
+}

@@ -152,3 +152,27 @@ impl Event {
 }
 
 pub type EventList = Sequence<Event>;
+
+#[cfg(test)]
+mod tests {
+    use super::*;
+    use std::test::Fail;
+
+    #[test]
+    fn copies_are_the_same(rt: HostRuntime) -> Result<(), Fail> {
+        let mut ids = Sequence::new(rt.alloc());
+        ids.push(Uid::new(7, 1))?;
+        let mut tuples = Sequence::new(rt.alloc());
+        tuples.push(Keys::empty())?;
+        let asked = Event::Ask(Query::All(3), Answer::Ids(ids)).copy(rt.alloc())?;
+        let said = Event::Say(Answer::Tuples(tuples)).copy(rt.alloc())?;
+        match (asked, said) {
+            (Event::Ask(Query::All(3), Answer::Ids(ids)), Event::Say(Answer::Tuples(tuples))) => {
+                assert!(rt; ids.as_slice() == [Uid::new(7, 1)].as_slice());
+                assert_eq!(rt; tuples.len(), 1);
+            }
+            _ => assert!(rt; false),
+        }
+        Ok(())
+    }
+}

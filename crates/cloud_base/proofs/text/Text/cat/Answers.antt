@@ -14,12 +14,12 @@ pub loop-byte-preserved : goal.loop-byte-preserved
 loop-byte-preserved c =
     let items = c.as_slice-byte-items.result.now in
     elim c.if-len-lt-MOST_BYTES.branch [
-      then-len-lt-MOST_BYTES w ↦
-        let more = cat_room c.args.self.now items c.loop-byte.bytes.items c.loop-byte.byte-index c.loop-byte-test.true c.loop-byte.invariant (omega arith) in
-        grind (arith, common_steps, more)
-    | else-len-lt-MOST_BYTES w ↦
-        let same = cat_full c.args.self.now items c.loop-byte.bytes.items c.loop-byte.byte-index c.loop-byte-test.true c.loop-byte.invariant (omega arith) in
-        grind (arith, common_steps, same)
+      | then-len-lt-MOST_BYTES w ↦
+          let more = cat_room c.args.self.now items c.loop-byte.bytes.items c.loop-byte.byte-index c.loop-byte-test.true c.loop-byte.invariant (omega arith) in
+          grind (arith, common_steps, more)
+      | else-len-lt-MOST_BYTES w ↦
+          let same = cat_full c.args.self.now items c.loop-byte.bytes.items c.loop-byte.byte-index c.loop-byte-test.true c.loop-byte.invariant (omega arith) in
+          grind (arith, common_steps, same)
     ]
 
 pub invariant_of-result : goal.invariant_of-result
