@@ -66,8 +66,10 @@ impl<C: ForkJoin> Grid<C> {
 
     /// The value of a cell.
     pub fn ask(&self, property: u16, keys: &Keys) -> C::Value
-        ensures { (base delta : List (At C.Change)) → GridStands C.plain C.effect_of C.stands self.now base delta
-            → result ≡ C.plain (of_cell (record { property = property; keys = keys.now }) (base ++ delta)) }
+        ensures { (base delta : List (At C.Change))
+            → GridStands C.plain C.effect_of C.stands self.now base delta
+            → result ≡ C.plain
+            (of_cell (record { property = property; keys = keys.now }) (base ++ delta)) }
     {
         let cell = Cell {
             property,
@@ -109,7 +111,8 @@ impl<C: ForkJoin> Grid<C> {
 
     /// Does one change more.
     pub fn update(&mut self, property: u16, keys: &Keys, change: &C::Change) -> Result<(), Memory>
-        ensures ok { OnOk result ((base delta : List (At C.Change)) → GridStands C.plain C.effect_of C.stands self.old base delta
+        ensures ok { OnOk result ((base delta : List (At C.Change))
+            → GridStands C.plain C.effect_of C.stands self.old base delta
             → GridStands C.plain C.effect_of C.stands self.new base
             (delta ++ record { cell = record { property = property; keys = keys.now }; change = change.now } ∷ [])) }
         ensures err { OnErr result (self.new ≡ self.old) }
@@ -126,7 +129,8 @@ impl<C: ForkJoin> Grid<C> {
 
     /// Makes a cell one of this value that is untouched, and leaves all others as they are.
     pub fn put(&mut self, property: u16, keys: &Keys, value: C::Value) -> Result<(), Memory>
-        ensures ok { OnOk result ((base delta before after : List (At C.Change)) → GridStands C.plain C.effect_of C.stands self.old base delta
+        ensures ok { OnOk result ((base delta before after : List (At C.Change))
+            → GridStands C.plain C.effect_of C.stands self.old base delta
             → let cell : Cell = record { property = property; keys = keys.now } in
             C.plain (of_cell cell before) ≡ value → of_cell cell after ≡ []
             → AgreeElsewhere cell base before → AgreeElsewhere cell delta after
@@ -145,7 +149,8 @@ impl<C: ForkJoin> Grid<C> {
     /// Does to a cell whatever has this effect, and leaves all others as they are.
     pub fn join_effect(&mut self, property: u16, keys: &Keys, effect: &Effect) -> Result<(), Memory>
         requires { C.is_own effect.now }
-        ensures ok { OnOk result ((base delta more : List (At C.Change)) → GridStands C.plain C.effect_of C.stands self.old base delta
+        ensures ok { OnOk result ((base delta more : List (At C.Change))
+            → GridStands C.plain C.effect_of C.stands self.old base delta
             → let cell : Cell = record { property = property; keys = keys.now } in
             C.effect_of (of_cell cell more) ≡ Some effect.now → AgreeElsewhere cell more []
             → GridStands C.plain C.effect_of C.stands self.new base (delta ++ more)) }
@@ -175,7 +180,8 @@ impl<C: ForkJoin> Grid<C> {
 
     /// A grid that begins where this one is.
     pub fn fork(&self) -> Result<Grid<C>, Memory>
-        ensures { IfOk result (λ child. (base delta : List (At C.Change)) → GridStands C.plain C.effect_of C.stands self.now base delta
+        ensures { IfOk result (λ child. (base delta : List (At C.Change))
+            → GridStands C.plain C.effect_of C.stands self.now base delta
             → GridStands C.plain C.effect_of C.stands child (base ++ delta) []) }
     {
         cell_orders();
@@ -188,7 +194,8 @@ impl<C: ForkJoin> Grid<C> {
 
     /// Does what the child did since it was forked, whatever it was forked from.
     pub fn join(&mut self, child: &Grid<C>) -> Result<(), Memory>
-        ensures ok { OnOk result ((base delta before after : List (At C.Change)) → GridStands C.plain C.effect_of C.stands self.old base delta
+        ensures ok { OnOk result ((base delta before after : List (At C.Change))
+            → GridStands C.plain C.effect_of C.stands self.old base delta
             → GridStands C.plain C.effect_of C.stands child.now before after
             → GridStands C.plain C.effect_of C.stands self.new base (delta ++ after)) }
         ensures err { OnErr result (self.new ≡ self.old) }
@@ -198,7 +205,8 @@ impl<C: ForkJoin> Grid<C> {
     }
 
     fn joined(&self, child: &Grid<C>) -> Result<Grid<C>, Memory>
-        ensures { IfOk result (λ joined. (base delta before after : List (At C.Change)) → GridStands C.plain C.effect_of C.stands self.now base delta
+        ensures { IfOk result (λ joined. (base delta before after : List (At C.Change))
+            → GridStands C.plain C.effect_of C.stands self.now base delta
             → GridStands C.plain C.effect_of C.stands child.now before after
             → GridStands C.plain C.effect_of C.stands joined base (delta ++ after)) }
     {
@@ -214,7 +222,8 @@ impl<C: ForkJoin> Grid<C> {
 
     /// Drops each cell that has the id among its keys.
     pub fn purge(&mut self, id: Uid)
-        ensures { (base delta : List (At C.Change)) → GridStands C.plain C.effect_of C.stands self.old base delta
+        ensures { (base delta : List (At C.Change))
+            → GridStands C.plain C.effect_of C.stands self.old base delta
             → GridStands C.plain C.effect_of C.stands self.new (without id base) (without id delta) }
     {
         cell_orders();
@@ -223,8 +232,11 @@ impl<C: ForkJoin> Grid<C> {
 
     /// The key lists of a property whose value isn't the default, in order.
     pub fn entries(&self, property: u16) -> Result<TupleList, Memory>
-        ensures { IfOk result (λ list. (base delta : List (At C.Change)) → GridStands C.plain C.effect_of C.stands self.now base delta
-            → Lists keys_order list (λ keys. C.plain (of_cell (record { property = property; keys = keys }) (base ++ delta)) ≢ C.plain [])) }
+        ensures { IfOk result (λ list. (base delta : List (At C.Change))
+            → GridStands C.plain C.effect_of C.stands self.now base delta
+            → Lists keys_order list
+            (λ keys. C.plain (of_cell (record { property = property; keys = keys }) (base ++ delta))
+            ≢ C.plain [])) }
     {
         cell_orders();
         let mut list = Sequence::new(self.alloc);
@@ -238,7 +250,8 @@ impl<C: ForkJoin> Grid<C> {
 
     /// What was done to each cell since the fork, where that is something, by property and then keys.
     pub fn effects(&self) -> Result<EffectList, Memory>
-        ensures { IfOk result (λ list. (base delta : List (At C.Change)) → GridStands C.plain C.effect_of C.stands self.now base delta
+        ensures { IfOk result (λ list. (base delta : List (At C.Change))
+            → GridStands C.plain C.effect_of C.stands self.now base delta
             → Lists effect_order list (λ it. C.effect_of (of_cell (cell_of it) delta) ≡ Some it.effect)) }
     {
         cell_orders();
