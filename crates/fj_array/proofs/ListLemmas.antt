@@ -1,5 +1,5 @@
 -- A list that is filled in a walk over the kept cells, with exactly the items that are asked for.
-use Rattle.std.proofs.Common.{◌≡◌, Bool, true, false, List, [], ◌∷◌, ◌++◌, ◌⊎◌, inl, inr, cond, refl, sym, ◌∙◌, ap, subst, ℕ, arith}
+use Rattle.std.proofs.Common.{◌≡◌, Bool, true, false, List, [], ◌∷◌, ◌++◌, inl, inr, cond, refl, sym, ◌∙◌, ap, subst, ℕ, arith}
 use Rattle.std.specs.Prelude.{Option, Some, None, ◌↔◌, Contains}
 use Rattle.std.specs.List.{AllByRecursion}
 use Rattle.std.specs.List.Sorted.{IsStrictlySortedBy}
@@ -14,11 +14,11 @@ use Rattle.cloud_base.specs.Sorted.{Lists}
 use Rattle.fj_array.specs.declared.cell.Cell.{Cell}
 use Rattle.cloud_base.specs.declared.key.Key.{Key}
 use Rattle.fj_core.specs.declared.effect.Effect.{Effect}
-use Rattle.fj_array.specs.declared.cell.CellEffect.{CellEffect}
+use Rattle.fj_array.specs.declared.effect.CellEffect.{CellEffect}
 use Rattle.fj_array.specs.Effects.{cell_of}
 use Rattle.fj_array.specs.Cells.{cell_order, same_cell, At, of_cell}
 use Rattle.fj_array.proofs.GridLemmas.{Apart, by_cases}
-use Rattle.fj_array.specs.Grids.{kept_at, IsIdle, CellStands, GridStands}
+use Rattle.fj_array.specs.Grids.{kept_at, GridStands}
 use Rattle.fj_array.proofs.CellLemmas.{of_cell-append}
 use Rattle.fj_array.proofs.GridLemmas.{when_some, when_none}
 use Rattle.fj_array.proofs.WalkLemmas.{none_after}
@@ -100,9 +100,13 @@ module _ {S X : Type 0} (order : X → X → Ordering) (cell : X → Cell) (P : 
         (all_map (λ x. Below (cell x) ((k, s) ∷ rest)) (λ x. Below (cell x) rest) list (λ x b. b.1) h.below)
         (subst (λ (c : Cell). Below c rest) (sym at) (sorted_head cell_order k (keys_of rest) h.left));
     only = λ x is. elim (Contains-push_cases list y x is) [
-        inl old ↦ ((h.only x old).0, gone o k s rest h.left (cell x) (h.only x old).1)
-      | inr new ↦ (subst P new p, subst (λ (z : X). lookup (is_at (cell_order (cell z))) rest ≡ None) new
-          (none_after o k s rest h.left (cell y) (subst (λ (c : Cell). same_cell c k ≡ true) (sym at) itself))) ];
+      | inl old ↦ ((h.only x old).0, gone o k s rest h.left (cell x) (h.only x old).1)
+      | inr new ↦ (
+        subst P new p,
+        subst (λ (z : X). lookup (is_at (cell_order (cell z))) rest ≡ None) new
+            (none_after o k s rest h.left (cell y) (subst (λ (c : Cell). same_cell c k ≡ true) (sym at) itself)),
+      )
+    ];
     every = λ x p' e. by_cases (same_cell (cell x) k)
         (λ is. subst (λ (z : X). Contains (list ++ y ∷ []) z) (one x (apart (cell x) k is) p') (Contains-push list y))
         (λ is. Contains-append_left list (y ∷ []) x (h.every x p' (look k s rest (cell x) is e)));
@@ -111,11 +115,11 @@ module _ {S X : Type 0} (order : X → X → Ordering) (cell : X → Cell) (P : 
   pub list_end : (rest : List (Cell × S)) (list : List X) → rest ≡ [] → Listed order cell P rest list → Lists order list P
   list_end rest list e h =
       let done : Listed order cell P [] list = subst (λ (r : List (Cell × S)). Listed order cell P r list) e h in
-      record {ascends = done.ascends; only = λ x is. (done.only x is).0; every = λ x p. done.every x p refl}
+      record { ascends = done.ascends; only = λ x is. (done.only x is).0; every = λ x p. done.every x p refl }
 
 -- what `entries` lists: key lists whose cell hasn't its default
 abbrev pub entry_cell : ℕ → List Key → Cell
-entry_cell property keys = record {property = property; keys = keys}
+entry_cell property keys = record { property = property; keys = keys }
 
 abbrev pub IsEntry : {C V : Type 0} → (List C → V) → ℕ → List (At C) → List Key → Type 0
 IsEntry plain property log keys = plain (of_cell (entry_cell property keys) log) ≡ plain [] → ⊥
@@ -135,21 +139,23 @@ module _ {S C V : Type 0} (plain : List C → V) (effect_of : List C → Option 
       list_start keys_order (entry_cell property) (IsEntry plain property (base ++ delta)) cells sorted
       (λ keys entry none. entry (default_unkept (entry_cell property keys) h none))
 
-  -- a kept state that says whether its value is the default
-  pub default_kept : (cell : Cell) (s : S) (r : Bool) → GridStands plain effect_of stands cells base delta → kept_at cells cell ≡ Some s
-      → ((before after : List C) → stands s before after → IsTrue r ↔ (plain (before ++ after) ≡ plain []))
-      → IsTrue r ↔ (plain (of_cell cell (base ++ delta)) ≡ plain [])
-  default_kept cell s r h some says =
+  -- a kept state that says whether its value is another than the default
+  pub set_kept : (property : ℕ) (keys : List Key) (s : S) (r : Bool) → GridStands plain effect_of stands cells base delta → kept_at cells (entry_cell property keys) ≡ Some s
+      → ((before after : List C) → stands s before after → IsTrue r ↔ (plain (before ++ after) ≡ plain [] → ⊥))
+      → IsTrue r ↔ IsEntry plain property (base ++ delta) keys
+  set_kept property keys s r h some says =
+      let cell : Cell = entry_cell property keys in
       let said = says (of_cell cell base) (of_cell cell delta) (when_some plain effect_of stands (kept_at cells cell) s (of_cell cell base) (of_cell cell delta) (sym some) (h cell)).0 in
-      (λ e. ap plain (of_cell-append cell base delta) ∙ said.0 e, λ e. said.1 (sym (ap plain (of_cell-append cell base delta)) ∙ e))
+      let both = ap plain (of_cell-append cell base delta) in
+      (λ e is. said.0 e (sym both ∙ is), λ entry. said.1 (λ is. entry (both ∙ is)))
 
   pub effects_start : IsStrictlySortedBy cell_order (keys_of cells) → GridStands plain effect_of stands cells base delta
       → Listed effect_order cell_of (IsEffect effect_of delta) cells []
   effects_start sorted h =
       list_start effect_order cell_of (IsEffect effect_of delta) cells sorted
       (λ it is none.
-          let idle = when_none plain effect_of stands (kept_at cells (cell_of it)) (of_cell (cell_of it) base) (of_cell (cell_of it) delta) (sym none) (h (cell_of it)) in
-          none_not_some it.effect (sym idle.1 ∙ is))
+      let idle = when_none plain effect_of stands (kept_at cells (cell_of it)) (of_cell (cell_of it) base) (of_cell (cell_of it) delta) (sym none) (h (cell_of it)) in
+      none_not_some it.effect (sym idle.1 ∙ is))
     where
       none_not_some : (e : Effect) → None ≡ Some e → ⊥
       none_not_some e is = cc
@@ -178,9 +184,9 @@ same_effect_of effect_of delta it other same a b =
   where
     by_fields : (it other : CellEffect) → it.property ≡ other.property → it.keys ≡ other.keys → it.effect ≡ other.effect → it ≡ other
     by_fields it other p k f =
-        ap (λ (x : ℕ). let y : CellEffect = record {property = x; keys = it.keys; effect = it.effect} in y) p
-        ∙ ap (λ (x : List Key). let y : CellEffect = record {property = other.property; keys = x; effect = it.effect} in y) k
-        ∙ ap (λ (x : Effect). let y : CellEffect = record {property = other.property; keys = other.keys; effect = x} in y) f
+        ap (λ (x : ℕ). let y : CellEffect = record { property = x; keys = it.keys; effect = it.effect } in y) p
+        ∙ ap (λ (x : List Key). let y : CellEffect = record { property = other.property; keys = x; effect = it.effect } in y) k
+        ∙ ap (λ (x : Effect). let y : CellEffect = record { property = other.property; keys = other.keys; effect = x } in y) f
 
 pub no_effect_of : {C : Type 0} (effect_of : List C → Option Effect) (delta : List (At C)) (it : CellEffect) (k : Cell) → cell_of it ≡ k
     → None ≡ effect_of (of_cell k delta) → IsEffect effect_of delta it → ⊥

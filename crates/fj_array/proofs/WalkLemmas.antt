@@ -1,11 +1,9 @@
 -- A walk over the kept cells of a grid, in order.
-use Rattle.std.proofs.Common.{◌≡◌, Bool, true, false, List, [], ◌∷◌, ◌++◌, cond, refl, sym, ◌∙◌, ap, subst}
+use Rattle.std.proofs.Common.{◌≡◌, Bool, true, false, List, [], ◌∷◌, ◌++◌, cond, refl, sym, ◌∙◌, subst}
 use Rattle.std.specs.Prelude.{Option, Some, None, MatchOption}
-use Rattle.std.specs.List.{AllByRecursion}
 use Rattle.std.specs.List.Sorted.{IsStrictlySortedBy}
 use Rattle.std.specs.Map.{lookup, keys_of}
 use Rattle.std.specs.BTreeMap.{is_at}
-use Rattle.std.specs.Ordering.{is_eq}
 use Rattle.std.specs.Cmp.{IsTotalOrder, eq_by_cmp_equiv}
 use Rattle.std.proofs.lemmas.Map.{lookup-none}
 use Rattle.std.proofs.lemmas.Map.Entries.{none_past_head}
@@ -13,7 +11,7 @@ use Rattle.std.proofs.lemmas.Map.Keys.{IsDistinct-from_sorted, sorted_tail}
 use Rattle.fj_array.specs.declared.cell.Cell.{Cell}
 use Rattle.fj_array.specs.Cells.{cell_order, same_cell}
 use Rattle.fj_core.specs.declared.effect.Effect.{Effect}
-use Rattle.fj_array.specs.Grids.{kept_at, IsIdle, CellStands, Puts}
+use Rattle.fj_array.specs.Grids.{kept_at, CellStands, Puts}
 use Rattle.fj_array.proofs.CellLemmas.{IsLawful, idle_forks, stands_idle}
 use Rattle.fj_array.proofs.GridLemmas.{Apart, by_cases, same_itself, when_some, when_none, Forks, Joins}
 
@@ -39,16 +37,17 @@ module _ {S : Type 0} where
   pub walk_step : Apart → IsTotalOrder cell_order → (k : Cell) (s : S) (rest : List (Cell × S)) (Todo Todo' : Cell → S → Type 0) (Done Done' : Cell → Type 0)
       → (Todo k s → Done' k) → ((q : Cell) (t : S) → same_cell k q ≡ false → Todo q t → Todo' q t) → ((q : Cell) → same_cell k q ≡ false → Done q → Done' q)
       → Walked ((k, s) ∷ rest) Todo Done → Walked rest Todo' Done'
-  walk_step apart o k s rest Todo Todo' Done Done' here todo done h =
-      ( sorted_tail cell_order k (keys_of rest) h.0
-      , λ (q : Cell). by_cases (same_cell q k)
-          (λ is. subst (λ (x : Option S). MatchOption x (Done' q) (Todo' q)) (sym (none_after o k s rest h.0 q is))
-              (let now : Todo q s = subst (λ (b : Bool). MatchOption (cond b (Some s) (lookup (is_at (cell_order q)) rest)) (Done q) (Todo q)) is (h.1 q) in
-               let same = apart q k is in
-               subst Done' (sym same) (here (subst (λ (x : Cell). Todo x s) same now))))
-          (λ is. let flip = (eq_by_cmp_equiv o).symm k q ∙ is in
-              match_option (lookup (is_at (cell_order q)) rest) (Done q) (Done' q) (Todo q) (Todo' q) (done q flip) (λ t. todo q t flip)
-              (subst (λ (b : Bool). MatchOption (cond b (Some s) (lookup (is_at (cell_order q)) rest)) (Done q) (Todo q)) is (h.1 q))) )
+  walk_step apart o k s rest Todo Todo' Done Done' here todo done h = (
+    sorted_tail cell_order k (keys_of rest) h.0,
+    λ (q : Cell). by_cases (same_cell q k)
+        (λ is. subst (λ (x : Option S). MatchOption x (Done' q) (Todo' q)) (sym (none_after o k s rest h.0 q is))
+        (let now : Todo q s = subst (λ (b : Bool). MatchOption (cond b (Some s) (lookup (is_at (cell_order q)) rest)) (Done q) (Todo q)) is (h.1 q) in
+        let same = apart q k is in
+        subst Done' (sym same) (here (subst (λ (x : Cell). Todo x s) same now))))
+        (λ is. let flip = (eq_by_cmp_equiv o).symm k q ∙ is in
+        match_option (lookup (is_at (cell_order q)) rest) (Done q) (Done' q) (Todo q) (Todo' q) (done q flip) (λ t. todo q t flip)
+        (subst (λ (b : Bool). MatchOption (cond b (Some s) (lookup (is_at (cell_order q)) rest)) (Done q) (Todo q)) is (h.1 q))),
+  )
 
   pub walk_end : (rest : List (Cell × S)) (Todo : Cell → S → Type 0) (Done : Cell → Type 0) → rest ≡ [] → Walked rest Todo Done → (q : Cell) → Done q
   walk_end rest Todo Done e h q = (subst (λ (l : List (Cell × S)). Walked l Todo Done) e h).1 q
@@ -107,11 +106,12 @@ module _ {S C V : Type 0} (plain : List C → V) (effect_of : List C → Option 
       (λ q is h. subst (λ (x : Option S). Forks plain effect_of stands (kept_at parent q) x) (sym (puts.elsewhere q is)) h)
 
   pub fork_start : IsLawful plain effect_of stands → (parent : List (Cell × S)) → IsStrictlySortedBy cell_order (keys_of parent) → Walked parent (ToFork parent []) (Forked parent [])
-  fork_start laws parent sorted =
-      ( sorted
-      , λ (q : Cell). all_to_do parent q (Forked parent [] q) (ToFork parent [] q)
-          (λ none base delta held. idle_forks laws base delta (when_none plain effect_of stands (kept_at parent q) base delta (sym none) held))
-          (λ s some. (some, refl)) )
+  fork_start laws parent sorted = (
+    sorted,
+    λ (q : Cell). all_to_do parent q (Forked parent [] q) (ToFork parent [] q)
+        (λ none base delta held. idle_forks laws base delta (when_none plain effect_of stands (kept_at parent q) base delta (sym none) held))
+        (λ s some. (some, refl)),
+  )
 
   abbrev pub ToJoin : List (Cell × S) → List (Cell × S) → List (Cell × S) → Cell → S → Type 0
   ToJoin old child new q s = (kept_at child q ≡ Some s) × (kept_at new q ≡ kept_at old q)
@@ -126,18 +126,19 @@ module _ {S C V : Type 0} (plain : List C → V) (effect_of : List C → Option 
   join_step apart o old child new new' k s made rest puts joins =
       walk_step apart o k s rest (ToJoin old child new) (ToJoin old child new') (Joined old child new) (Joined old child new')
       (λ t base delta before after held theirs. puts.here base (delta ++ after) (joins base delta before after
-          (subst (λ (x : Option S). CellStands plain effect_of stands x base delta) (sym t.1) held)
-          (when_some plain effect_of stands (kept_at child k) s before after (sym t.0) theirs).0))
+      (subst (λ (x : Option S). CellStands plain effect_of stands x base delta) (sym t.1) held)
+      (when_some plain effect_of stands (kept_at child k) s before after (sym t.0) theirs).0))
       (λ q t is h. (h.0, puts.elsewhere q is ∙ h.1))
       (λ q is h. subst (λ (x : Option S). Joins plain effect_of stands (kept_at old q) (kept_at child q) x) (sym (puts.elsewhere q is)) h)
 
   pub join_start : IsLawful plain effect_of stands → (old child new : List (Cell × S)) → ((q : Cell) → kept_at new q ≡ kept_at old q) → IsStrictlySortedBy cell_order (keys_of child)
       → Walked child (ToJoin old child new) (Joined old child new)
-  join_start laws old child new same sorted =
-      ( sorted
-      , λ (q : Cell). all_to_do child q (Joined old child new q) (ToJoin old child new q)
-          (λ none base delta before after held theirs.
-              stands_idle laws (kept_at new q) base delta before after
-              (subst (λ (x : Option S). CellStands plain effect_of stands x base delta) (sym (same q)) held)
-              (when_none plain effect_of stands (kept_at child q) before after (sym none) theirs))
-          (λ s some. (some, same q)) )
+  join_start laws old child new same sorted = (
+    sorted,
+    λ (q : Cell). all_to_do child q (Joined old child new q) (ToJoin old child new q)
+        (λ none base delta before after held theirs.
+        stands_idle laws (kept_at new q) base delta before after
+        (subst (λ (x : Option S). CellStands plain effect_of stands x base delta) (sym (same q)) held)
+        (when_none plain effect_of stands (kept_at child q) before after (sym none) theirs))
+        (λ s some. (some, same q)),
+  )

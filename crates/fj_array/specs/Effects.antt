@@ -1,7 +1,7 @@
 -- The effects of the cells.
 use Rattle.std.specs.declared.cmp.Ordering.{Ordering}
 use Rattle.fj_array.specs.declared.cell.Cell.{Cell}
-use Rattle.fj_array.specs.declared.cell.CellEffect.{CellEffect}
+use Rattle.fj_array.specs.declared.effect.CellEffect.{CellEffect}
 use Rattle.fj_array.specs.Cells.{cell_order}
 
 abbrev pub cell_of : CellEffect → Cell

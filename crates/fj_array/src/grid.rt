@@ -4,12 +4,13 @@ ghost use Rattle.cloud_base.specs.Order.{keys_order};
 ghost use Rattle.cloud_base.specs.Sorted.{Lists};
 ghost use Rattle.cloud_base.specs.declared.key.Key.{Key};
 ghost use Rattle.fj_array.specs.declared.cell.Cell.{Cell};
-ghost use Rattle.fj_array.specs.declared.cell.CellEffect.{CellEffect};
+ghost use Rattle.fj_array.specs.declared.effect.CellEffect.{CellEffect};
 ghost use Rattle.fj_array.specs.Cells.{At, of_cell, is_id_lem, has_id_lem, without};
 ghost use Rattle.fj_array.specs.Effects.{cell_of, effect_order};
 ghost use Rattle.fj_array.specs.Grids.{kept_at, IsIdle, CellStands, GridStands, Puts, AgreeElsewhere};
 
-use crate::cell::{Cell, CellEffect, EffectList};
+use crate::cell::Cell;
+use crate::effect::{CellEffect, EffectList};
 use crate::laws::cell_orders;
 use cloud_base::{Key, Keys, Memory, Sequence, TupleList, Uid};
 use fj_core::{Effect, ForkJoin};
@@ -44,6 +45,14 @@ fn is_idle<C: ForkJoin>(state: &C) -> bool
     state.is_default() && state.effect().is_none()
 }
 
+/// Whether a cell has another value than its default.
+fn is_set<C: ForkJoin>(state: &C) -> bool
+    ensures { (base delta : List C.Change) → C.stands state.now base delta
+        → (IsTrue result ↔ (C.plain (base ++ delta) ≢ C.plain [])) }
+{
+    !state.is_default()
+}
+
 impl<C: ForkJoin> Grid<C> {
     pub fn new(alloc: Global) -> Grid<C>
         ensures empty { result ≡ [] }
@@ -57,8 +66,10 @@ impl<C: ForkJoin> Grid<C> {
 
     /// The value of a cell.
     pub fn ask(&self, property: u16, keys: &Keys) -> C::Value
-        ensures { (base delta : List (At C.Change)) → GridStands C.plain C.effect_of C.stands self.now base delta
-            → result ≡ C.plain (of_cell (record { property = property; keys = keys.now }) (base ++ delta)) }
+        ensures { (base delta : List (At C.Change))
+            → GridStands C.plain C.effect_of C.stands self.now base delta
+            → result ≡ C.plain
+            (of_cell (record { property = property; keys = keys.now }) (base ++ delta)) }
     {
         let cell = Cell {
             property,
@@ -99,15 +110,11 @@ impl<C: ForkJoin> Grid<C> {
     }
 
     /// Does one change more.
-    pub fn update(
-        &mut self,
-        property: u16,
-        keys: &Keys,
-        change: &C::Change,
-    ) -> Result<(), Memory>
-        ensures ok { OnOk result ((base delta : List (At C.Change)) → GridStands C.plain C.effect_of C.stands self.old base delta
+    pub fn update(&mut self, property: u16, keys: &Keys, change: &C::Change) -> Result<(), Memory>
+        ensures ok { OnOk result ((base delta : List (At C.Change))
+            → GridStands C.plain C.effect_of C.stands self.old base delta
             → GridStands C.plain C.effect_of C.stands self.new base
-                (delta ++ record { cell = record { property = property; keys = keys.now }; change = change.now } ∷ [])) }
+            (delta ++ record { cell = record { property = property; keys = keys.now }; change = change.now } ∷ [])) }
         ensures err { OnErr result (self.new ≡ self.old) }
     {
         cell_orders();
@@ -122,11 +129,12 @@ impl<C: ForkJoin> Grid<C> {
 
     /// Makes a cell one of this value that is untouched, and leaves all others as they are.
     pub fn put(&mut self, property: u16, keys: &Keys, value: C::Value) -> Result<(), Memory>
-        ensures ok { OnOk result ((base delta before after : List (At C.Change)) → GridStands C.plain C.effect_of C.stands self.old base delta
+        ensures ok { OnOk result ((base delta before after : List (At C.Change))
+            → GridStands C.plain C.effect_of C.stands self.old base delta
             → let cell : Cell = record { property = property; keys = keys.now } in
-                C.plain (of_cell cell before) ≡ value → of_cell cell after ≡ []
-                → AgreeElsewhere cell base before → AgreeElsewhere cell delta after
-                → GridStands C.plain C.effect_of C.stands self.new before after) }
+            C.plain (of_cell cell before) ≡ value → of_cell cell after ≡ []
+            → AgreeElsewhere cell base before → AgreeElsewhere cell delta after
+            → GridStands C.plain C.effect_of C.stands self.new before after) }
         ensures err { OnErr result (self.new ≡ self.old) }
     {
         cell_orders();
@@ -139,17 +147,13 @@ impl<C: ForkJoin> Grid<C> {
     }
 
     /// Does to a cell whatever has this effect, and leaves all others as they are.
-    pub fn join_effect(
-        &mut self,
-        property: u16,
-        keys: &Keys,
-        effect: &Effect,
-    ) -> Result<(), Memory>
+    pub fn join_effect(&mut self, property: u16, keys: &Keys, effect: &Effect) -> Result<(), Memory>
         requires { C.is_own effect.now }
-        ensures ok { OnOk result ((base delta more : List (At C.Change)) → GridStands C.plain C.effect_of C.stands self.old base delta
+        ensures ok { OnOk result ((base delta more : List (At C.Change))
+            → GridStands C.plain C.effect_of C.stands self.old base delta
             → let cell : Cell = record { property = property; keys = keys.now } in
-                C.effect_of (of_cell cell more) ≡ Some effect.now → AgreeElsewhere cell more []
-                → GridStands C.plain C.effect_of C.stands self.new base (delta ++ more)) }
+            C.effect_of (of_cell cell more) ≡ Some effect.now → AgreeElsewhere cell more []
+            → GridStands C.plain C.effect_of C.stands self.new base (delta ++ more)) }
         ensures err { OnErr result (self.new ≡ self.old) }
     {
         cell_orders();
@@ -176,7 +180,8 @@ impl<C: ForkJoin> Grid<C> {
 
     /// A grid that begins where this one is.
     pub fn fork(&self) -> Result<Grid<C>, Memory>
-        ensures { IfOk result (λ child. (base delta : List (At C.Change)) → GridStands C.plain C.effect_of C.stands self.now base delta
+        ensures { IfOk result (λ child. (base delta : List (At C.Change))
+            → GridStands C.plain C.effect_of C.stands self.now base delta
             → GridStands C.plain C.effect_of C.stands child (base ++ delta) []) }
     {
         cell_orders();
@@ -189,7 +194,8 @@ impl<C: ForkJoin> Grid<C> {
 
     /// Does what the child did since it was forked, whatever it was forked from.
     pub fn join(&mut self, child: &Grid<C>) -> Result<(), Memory>
-        ensures ok { OnOk result ((base delta before after : List (At C.Change)) → GridStands C.plain C.effect_of C.stands self.old base delta
+        ensures ok { OnOk result ((base delta before after : List (At C.Change))
+            → GridStands C.plain C.effect_of C.stands self.old base delta
             → GridStands C.plain C.effect_of C.stands child.now before after
             → GridStands C.plain C.effect_of C.stands self.new base (delta ++ after)) }
         ensures err { OnErr result (self.new ≡ self.old) }
@@ -199,7 +205,8 @@ impl<C: ForkJoin> Grid<C> {
     }
 
     fn joined(&self, child: &Grid<C>) -> Result<Grid<C>, Memory>
-        ensures { IfOk result (λ joined. (base delta before after : List (At C.Change)) → GridStands C.plain C.effect_of C.stands self.now base delta
+        ensures { IfOk result (λ joined. (base delta before after : List (At C.Change))
+            → GridStands C.plain C.effect_of C.stands self.now base delta
             → GridStands C.plain C.effect_of C.stands child.now before after
             → GridStands C.plain C.effect_of C.stands joined base (delta ++ after)) }
     {
@@ -215,7 +222,8 @@ impl<C: ForkJoin> Grid<C> {
 
     /// Drops each cell that has the id among its keys.
     pub fn purge(&mut self, id: Uid)
-        ensures { (base delta : List (At C.Change)) → GridStands C.plain C.effect_of C.stands self.old base delta
+        ensures { (base delta : List (At C.Change))
+            → GridStands C.plain C.effect_of C.stands self.old base delta
             → GridStands C.plain C.effect_of C.stands self.new (without id base) (without id delta) }
     {
         cell_orders();
@@ -224,13 +232,16 @@ impl<C: ForkJoin> Grid<C> {
 
     /// The key lists of a property whose value isn't the default, in order.
     pub fn entries(&self, property: u16) -> Result<TupleList, Memory>
-        ensures { IfOk result (λ list. (base delta : List (At C.Change)) → GridStands C.plain C.effect_of C.stands self.now base delta
-            → Lists keys_order list (λ keys. C.plain (of_cell (record { property = property; keys = keys }) (base ++ delta)) ≢ C.plain [])) }
+        ensures { IfOk result (λ list. (base delta : List (At C.Change))
+            → GridStands C.plain C.effect_of C.stands self.now base delta
+            → Lists keys_order list
+            (λ keys. C.plain (of_cell (record { property = property; keys = keys }) (base ++ delta))
+            ≢ C.plain [])) }
     {
         cell_orders();
         let mut list = Sequence::new(self.alloc);
         for (cell, state) in &self.cells {
-            if cell.property == property && !state.is_default() {
+            if cell.property == property && is_set(state) {
                 list.push(cell.keys.copied())?;
             }
         }
@@ -239,7 +250,8 @@ impl<C: ForkJoin> Grid<C> {
 
     /// What was done to each cell since the fork, where that is something, by property and then keys.
     pub fn effects(&self) -> Result<EffectList, Memory>
-        ensures { IfOk result (λ list. (base delta : List (At C.Change)) → GridStands C.plain C.effect_of C.stands self.now base delta
+        ensures { IfOk result (λ list. (base delta : List (At C.Change))
+            → GridStands C.plain C.effect_of C.stands self.now base delta
             → Lists effect_order list (λ it. C.effect_of (of_cell (cell_of it) delta) ≡ Some it.effect)) }
     {
         cell_orders();

@@ -1,4 +1,4 @@
-use Rattle.std.proofs.Common.{◌≡◌, subst, List, ◌∷◌, sym, ◌∙◌, ap, false}
+use Rattle.std.proofs.Common.{◌≡◌, subst, List, sym, ◌∙◌, ap, false}
 use Rattle.std.specs.Prelude.{Some, None}
 use Rattle.std.specs.Map.Iter.{deref_pair}
 use Rattle.std.proofs.lemmas.Map.Iter.{rest_more}

@@ -1,4 +1,4 @@
-use Rattle.std.proofs.Common.{◌≡◌, subst, List, ◌∷◌}
+use Rattle.std.proofs.Common.{subst, List}
 use Rattle.std.specs.Map.Iter.{deref_pair}
 use Rattle.std.proofs.lemmas.Map.Iter.{rest_more, rest_all}
 use Rattle.fj_array.specs.declared.cell.Cell.{Cell}

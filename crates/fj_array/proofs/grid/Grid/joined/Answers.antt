@@ -1,11 +1,10 @@
-use Rattle.std.proofs.Common.{◌≡◌, subst, List, [], ◌∷◌, ◌++◌, sym, ◌∙◌, ap, refl, true, false}
-use Rattle.std.specs.Prelude.{Some, None}
+use Rattle.std.proofs.Common.{subst, List, sym, ◌∙◌}
 use Rattle.std.specs.List.Sorted.{IsStrictlySortedBy}
 use Rattle.std.specs.Map.{keys_of}
 use Rattle.std.specs.Map.Iter.{deref_pair}
 use Rattle.std.proofs.lemmas.Map.Iter.{rest_more, rest_all}
 use Rattle.fj_array.specs.declared.cell.Cell.{Cell}
-use Rattle.fj_array.specs.Cells.{cell_order, At, of_cell}
+use Rattle.fj_array.specs.Cells.{cell_order}
 use Rattle.fj_array.specs.Grids.{Puts}
 use Rattle.fj_array.proofs.CellLemmas.{IsLawful}
 use Rattle.fj_array.proofs.GridLemmas.{joins_stands}
@@ -16,7 +15,7 @@ pub loop-cell-init : goal.loop-cell-init
 loop-cell-init g c =
     let f = g.C.ForkJoin in
     let m = g.met.C.ForkJoin in
-    let laws : IsLawful f.plain f.effect_of f.stands = record {applied = f.applied; combined = f.combined; by_effect = m.stands_by_effect; plain_append = m.plain_append; effect_append = m.effect_append; effect_empty = m.effect_empty} in
+    let laws : IsLawful f.plain f.effect_of f.stands = record { applied = f.applied; combined = f.combined; by_effect = m.stands_by_effect; plain_append = m.plain_append; effect_append = m.effect_append; effect_empty = m.effect_empty } in
     let i = c.into_iter-cell-iterator.ensures.into_iter_gives in
     let whole = i.0 ∙ c.child.view_is in
     let sorted = subst (λ (l : List (Cell × g.row.C.Denot)). IsStrictlySortedBy cell_order (keys_of l)) c.child.view_is i.5 in
