@@ -55,8 +55,8 @@ fn take_piece<S: Source>(
     Ok(false)
 }
 
-#[tactic(auto, using(crate::proofs::Pieces::handed_parts))]
 /// All that the source has left, or one byte more than a text may have of it.
+#[tactic(auto, using(crate::proofs::Pieces::handed_parts))]
 pub(crate) fn take_all<S: Source>(alloc: Global, source: &mut S) -> Result<Vec<u8>, Unread>
     ensures failed { IsErrOf result Unread.Failed → Rose (S.faults source.old) (S.faults source.new) }
     ensures unfailed { (IsErrOf result Unread.Failed → ⊥) → S.faults source.new ≡ S.faults source.old }
