@@ -1,0 +1,22 @@
+-- The number and the line of a status.
+use Rattle.std.specs.Prelude.{ℕ, List, [], codes}
+use Rattle.cloud_parse.specs.declared.fault.Which.TheVariants as which
+use Rattle.cloud_run.specs.declared.status.Status.{Status}
+use Rattle.cloud_run.specs.declared.status.Status.TheVariants as status
+
+abbrev pub status_number : Status → ℕ
+status_number status.Done = 0
+status_number status.Words = 1
+status_number status.ReadFault = 2
+status_number status.WriteFault = 3
+status_number (status.Limit w) = 6
+status_number status.Memory = 7
+
+abbrev pub status_line : Status → List ℕ
+status_line status.Done = []
+status_line status.Words = codes "words"
+status_line status.ReadFault = codes "read fault"
+status_line status.WriteFault = codes "write fault"
+status_line (status.Limit which.Bytes) = codes "limit Bytes"
+status_line (status.Limit which.Form) = codes "limit Form"
+status_line status.Memory = codes "memory"

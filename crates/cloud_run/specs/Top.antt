@@ -1,0 +1,85 @@
+-- What a command reads and writes, by its status.
+use Rattle.std.specs.Prelude.{◌≡◌, ℕ, ◌+◌, ◌<◌, ◌≤◌, List, [], ◌∷◌, ◌⊎◌, length, Option, Some, None, codes}
+use Rattle.cloud_base.specs.Causes.{Rose}
+use Rattle.cloud_base.specs.declared.batch.End.{End}
+use Rattle.cloud_parse.specs.Form.{Form, IsForm, HasForm}
+use Rattle.cloud_parse.specs.Parse.{most_text}
+use Rattle.cloud_parse.specs.declared.fault.Which.TheVariants as which
+use Rattle.revision_diagram.specs.declared.step.Step.{Step}
+use Rattle.diagram_text.specs.Text.{report_text}
+use Rattle.one_client.specs.Headline.{Headline}
+use Rattle.one_client.specs.Program.{schema_of, trace}
+use Rattle.one_client.specs.Steps.{report_of}
+use Rattle.cloud_run.specs.declared.status.Status.{Status}
+use Rattle.cloud_run.specs.declared.status.Status.TheVariants as status
+use Rattle.cloud_run.specs.Flows.{AtEnd, Got, GotPart}
+
+-- the words of the one command
+abbrev pub play_words : List (List ℕ)
+play_words = codes "play" ∷ []
+
+-- the most bytes that are read: one more than a text may have
+abbrev pub most_read : ℕ
+most_read = most_text + 1
+
+-- What each status says of the whole text that the source had left: it isn't too long and has a tree; it is too long;
+-- it isn't too long and has no tree.
+abbrev pub Judges : Status → List ℕ → Type 0
+Judges status.Done text = (length text ≤ most_text) × ((f : Form) × HasForm text f)
+Judges status.Words text = Unit {0}
+Judges status.ReadFault text = Unit {0}
+Judges status.WriteFault text = (length text ≤ most_text) × ((f : Form) × HasForm text f)
+Judges (status.Limit which.Bytes) text = most_text < length text
+Judges (status.Limit which.Form) text = (length text ≤ most_text) × ((f : Form) → HasForm text f → ⊥)
+Judges status.Memory text = Unit {0}
+
+-- the same, where the source tells what it has left
+abbrev pub JudgesLeft : Status → Option (List ℕ) → Type 0
+JudgesLeft s None = Unit {0}
+JudgesLeft s (Some text) = Judges s text
+
+-- the count of ends: it rose where the whole text was judged, and stands where no end was found
+abbrev pub EndSeen : Status → ℕ → ℕ → Type 0
+EndSeen status.Done before now = Rose before now
+EndSeen status.Words before now = now ≡ before
+EndSeen status.ReadFault before now = now ≡ before
+EndSeen status.WriteFault before now = Rose before now
+EndSeen (status.Limit which.Bytes) before now = now ≡ before
+EndSeen (status.Limit which.Form) before now = Rose before now
+EndSeen status.Memory before now = before ≤ now
+
+-- the text that the source had left has this tree, where it tells what it has left
+abbrev pub LeftForm : Option (List ℕ) → Form → Type 0
+LeftForm None f = IsForm f
+LeftForm (Some text) f = HasForm text f
+
+-- What was written: the whole report of the text that the source had left, or a front of it; of the source nothing
+-- is left unread then. With every other status the sink holds what it held.
+abbrev pub Writes : Status → Option (List ℕ) → Option (List ℕ) → Option (List ℕ) → Option (List ℕ) → Type 0
+Writes status.Done left after held now = (f : Form) × LeftForm left f × AtEnd after × Got held now (report_of f)
+Writes status.Words left after held now = now ≡ held
+Writes status.ReadFault left after held now = now ≡ held
+Writes status.WriteFault left after held now = (f : Form) × LeftForm left f × AtEnd after × GotPart held now (report_of f)
+Writes (status.Limit w) left after held now = now ≡ held
+Writes status.Memory left after held now = now ≡ held
+
+-- What was written is the text of a lawful diagram of the source's program: the client runs that program up to its
+-- end, and each of its queries is answered as its updates make it.
+abbrev pub WritesLawful : Option (List ℕ) → Option (List ℕ) → Option (List ℕ) → Type 0
+WritesLawful left held now =
+    (f : Form) × (steps : List Step) × (end : End) × LeftForm left f × Headline (schema_of f) (trace f) end steps
+    × Got held now (report_text (schema_of f) (f.client ∷ []) steps (end ∷ []))
+
+-- the source tells its text, and that is short enough and has a tree
+abbrev pub Accepted : Option (List ℕ) → Type 0
+Accepted None = ⊥
+Accepted (Some text) = (length text ≤ most_text) × ((f : Form) × HasForm text f)
+
+-- a refusal that comes before anything is written, but for the words
+abbrev pub IsReadRefusal : Status → Type 0
+IsReadRefusal status.Done = ⊥
+IsReadRefusal status.Words = ⊥
+IsReadRefusal status.ReadFault = Unit {0}
+IsReadRefusal status.WriteFault = ⊥
+IsReadRefusal (status.Limit w) = Unit {0}
+IsReadRefusal status.Memory = Unit {0}

@@ -1,0 +1,178 @@
+// Commands over sources and sinks in memory.
+use crate::{Status, Words, top, top_plain};
+use cloud_base::{MemSink, MemSource, Sink, Source, StdSink, StdSource};
+use cloud_parse::Which;
+use std::alloc::Global;
+use std::test::Fail;
+
+const SMALL: &str = "schema { } client a { }";
+
+const SMALL_REPORT: &str = "fork 0 1 a\nend a Done\n";
+
+const ROOM: usize = 1_000_000;
+
+fn words(alloc: Global, given: &[&str]) -> Result<Words, Fail> {
+    let mut words = Words::new(alloc);
+    for word in given {
+        words.push(word)?;
+    }
+    Ok(words)
+}
+
+// The status and what the sink took of `play` over the text.
+fn played(alloc: Global, text: &str) -> Result<(Status, MemSink), Fail> {
+    let mut source = MemSource::new(alloc, text.as_bytes(), ROOM, None)?;
+    let mut sink = MemSink::new(alloc, ROOM, ROOM)?;
+    let words = words(alloc, &["play"])?;
+    let status = top_plain(alloc, &words, &mut source, &mut sink);
+    Ok((status, sink))
+}
+
+// One client over one global, with so many times this statement.
+fn repeated(alloc: Global, statement: &str, times: u32) -> Result<String, Fail> {
+    let mut text = String::from_str(alloc, "schema { global g : CInt; } client a {")?;
+    for _ in 0..times {
+        text.push_str(statement)?;
+    }
+    text.push_str(" }")?;
+    Ok(text)
+}
+
+fn padded(alloc: Global, spaces: u32) -> Result<String, Fail> {
+    let mut text = String::from_str(alloc, SMALL)?;
+    for _ in 0..spaces {
+        text.push(' ')?;
+    }
+    Ok(text)
+}
+
+#[test]
+fn prints_reports(rt: HostRuntime) -> Result<(), Fail> {
+    let alloc = rt.alloc();
+    for (text, report) in [
+        (SMALL, SMALL_REPORT),
+        (
+            "schema { global g : CInt; } client a { g.set(9223372036854775807); g.add(1); print g; }",
+            "fork 0 1 a\ndo 1 g.set(9223372036854775807)\ndo 1 g.add(1)\nask 1 g = -9223372036854775808\nsay 1 -9223372036854775808\nend a Done\n",
+        ),
+        (
+            "schema { global g : CInt; } client a { g.add(2); print g; yield; print g; }",
+            "fork 0 1 a\ndo 1 g.add(2)\nask 1 g = 2\nsay 1 2\nmark 1 yield\nfork 1 2 a\njoin 0 1\nask 2 g = 2\nsay 2 2\nend a Done\n",
+        ),
+        (
+            "schema { global g : CInt; } client a { g.add(2); print g; yield; print g; yield; print g; }",
+            "fork 0 1 a\ndo 1 g.add(2)\nask 1 g = 2\nsay 1 2\nmark 1 yield\nfork 1 2 a\njoin 0 1\nfork 0 3 a\nask 2 g = 2\nsay 2 2\nmark 2 yield\njoin 3 2\nfork 3 4 a\njoin 0 3\nask 4 g = 2\nsay 4 2\nend a Done\n",
+        ),
+    ] {
+        let (status, sink) = played(alloc, text)?;
+        assert_eq!(rt; status, Status::Done, "at {text}");
+        assert_eq!(rt; sink.held(), report.as_bytes(), "at {text}");
+    }
+    Ok(())
+}
+
+#[test]
+fn ends_where_the_turns_do(rt: HostRuntime) -> Result<(), Fail> {
+    let alloc = rt.alloc();
+    for (statement, times, said, end) in [
+        (" print g;", 8_192, "say 1 0", "end a Done"),
+        (" print g;", 8_193, "say 1 0", "end a Spent"),
+        (" yield;", 8_191, "mark 1 yield", "end a Done"),
+    ] {
+        let text = repeated(alloc, statement, times)?;
+        let (status, sink) = played(alloc, text.as_str())?;
+        assert_eq!(rt; status, Status::Done, "at {times} of {statement}");
+        let Ok(report) = str::from_utf8(sink.held()) else {
+            return Err(Fail::from("not a text"));
+        };
+        let mut last = "";
+        let mut says = 0;
+        let mut found = false;
+        for line in report.lines() {
+            found = found || line == said;
+            if line.starts_with("say ") {
+                says += 1;
+            }
+            last = line;
+        }
+        assert!(rt; found, "at {times} of {statement}");
+        assert_eq!(rt; last, end);
+        let wanted = if statement == " print g;" { 8_192 } else { 0 };
+        assert_eq!(rt; says, wanted);
+    }
+    Ok(())
+}
+
+#[test]
+fn refuses_texts_and_words(rt: HostRuntime) -> Result<(), Fail> {
+    let alloc = rt.alloc();
+    for (spaces, wanted) in [
+        (262_121, Status::Done),
+        (262_122, Status::Limit(Which::Bytes)),
+    ] {
+        let (status, _sink) = played(alloc, padded(alloc, spaces)?.as_str())?;
+        assert_eq!(rt; status, wanted, "at {spaces} spaces");
+    }
+    let (status, sink) = played(alloc, "schema { } client a {")?;
+    assert_eq!(rt; status, Status::Limit(Which::Form));
+    assert!(rt; sink.held().is_empty());
+    for given in [&[][..], &["play", "x"][..], &["plays"][..], &["Play"][..]] {
+        let mut source = MemSource::new(alloc, SMALL.as_bytes(), 1, Some(0))?;
+        let mut sink = MemSink::new(alloc, 1, 0)?;
+        let words = words(alloc, given)?;
+        assert_eq!(rt;
+            top(&rt, alloc, &words, &mut source, &mut sink),
+            Status::Words
+        );
+    }
+    Ok(())
+}
+
+#[test]
+fn answers_faults_of_reading_and_writing(rt: HostRuntime) -> Result<(), Fail> {
+    let alloc = rt.alloc();
+    let play = words(alloc, &["play"])?;
+    for (fail_at, room, wanted, held) in [
+        (Some(1), ROOM, Status::ReadFault, ""),
+        (None, 10, Status::WriteFault, "fork 0 1 a"),
+        (Some(4), ROOM, Status::Done, SMALL_REPORT),
+        (Some(3), ROOM, Status::ReadFault, ""),
+    ] {
+        let mut source = MemSource::new(alloc, SMALL.as_bytes(), 10, fail_at)?;
+        let mut sink = MemSink::new(alloc, ROOM, room)?;
+        assert_eq!(rt; top_plain(alloc, &play, &mut source, &mut sink), wanted);
+        assert_eq!(rt; sink.held(), held.as_bytes());
+    }
+    Ok(())
+}
+
+#[test]
+fn runs_over_readers_and_writers(rt: HostRuntime) -> Result<(), Fail> {
+    let alloc = rt.alloc();
+    let play = words(alloc, &["play"])?;
+    let mut written = Vec::new(alloc);
+    let mut source = StdSource::new(SMALL.as_bytes());
+    let mut sink = StdSink::new(&mut written);
+    assert_eq!(rt;
+        top(&rt, alloc, &play, &mut source, &mut sink),
+        Status::Done
+    );
+    assert_eq!(rt; written.as_slice(), SMALL_REPORT.as_bytes());
+    Ok(())
+}
+
+#[test]
+fn names_each_status(rt: HostRuntime) {
+    for (status, number, line) in [
+        (Status::Done, 0, ""),
+        (Status::Words, 1, "words"),
+        (Status::ReadFault, 2, "read fault"),
+        (Status::WriteFault, 3, "write fault"),
+        (Status::Limit(Which::Bytes), 6, "limit Bytes"),
+        (Status::Limit(Which::Form), 6, "limit Form"),
+        (Status::Memory, 7, "memory"),
+    ] {
+        assert_eq!(rt; status.number(), number);
+        assert_eq!(rt; status.line(), line);
+    }
+}
