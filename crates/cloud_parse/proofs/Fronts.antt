@@ -1,7 +1,7 @@
 -- The longest front of a list that passes a test, and what a lexeme takes of a text.
-use Rattle.std.proofs.Common.{◌≡◌, ℕ, ◌+◌, ◌≤◌, ◌-◌, Bool, true, false, ◌&&◌, ◌||◌, cond, List, [], ◌∷◌, ◌++◌, length, take, drop, slice_index, nat_eq, refl, ap, sym, ◌∙◌, subst, arith, lit≤, length-append, Option, Some, None, option_map}
+use Rattle.std.proofs.Common.{◌≡◌, ℕ, ◌≤◌, Bool, true, false, ◌&&◌, ◌||◌, cond, List, [], ◌∷◌, ◌++◌, length, take, drop, slice_index, nat_eq, refl, ap, sym, ◌∙◌, arith, lit≤, length-append, Some}
 use Rattle.std.specs.Prelude.{take_while, find, codes, not, ◌==◌}
-use Rattle.std.specs.List.{prefix_len, starts_with}
+use Rattle.std.specs.List.{starts_with}
 use Rattle.std.proofs.lemmas.List.Folds.{length-prefix_len}
 use Rattle.std.proofs.lemmas.List.Sums.{prefix_len-le-length, take_while-cons}
 use Rattle.std.proofs.lemmas.Slice.Eq.{starts_is}

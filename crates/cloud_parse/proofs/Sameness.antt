@@ -1,9 +1,9 @@
 -- Two fixed tokens are one where they are written alike.
-use Rattle.std.proofs.Common.{◌≡◌, ℕ, Bool, true, false, List, ◌++◌, refl, ap, sym, ◌∙◌, Option, Some, None}
+use Rattle.std.proofs.Common.{◌≡◌, ℕ, Bool, true, false, List, ◌++◌, refl, ap, sym, ◌∙◌, Option, Some}
 use Rattle.std.specs.Prelude.{find}
 use Rattle.std.specs.Str.{bytes_eq}
 use Rattle.std.proofs.lemmas.Slice.Eq.{bytes_eq-Decides}
-use denote.Enum.Bare.{sameb, same_true, same_false, true_same, false_same}
+use denote.Enum.Bare.{sameb, same_true, same_false}
 use Rattle.cloud_parse.specs.Terminals.{terminal_text}
 use Rattle.cloud_parse.specs.Reading.{same_terminal}
 use Rattle.cloud_parse.specs.contracts.terminal.Terminal.{the_type}

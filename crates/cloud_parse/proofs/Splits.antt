@@ -1,5 +1,5 @@
 -- The tokens of a text, one lexeme after another.
-use Rattle.std.proofs.Common.{◌≡◌, ℕ, zero, suc, ◌+◌, ◌≤◌, ◌-◌, List, [], ◌∷◌, ◌++◌, length, take, drop, refl, ap, sym, ◌∙◌, arith, append_assoc, append-nil, length-drop, Option, Some, None, option_map}
+use Rattle.std.proofs.Common.{◌≡◌, ℕ, zero, suc, ◌≤◌, ◌-◌, List, [], ◌∷◌, ◌++◌, length, take, drop, refl, ap, sym, ◌∙◌, arith, append_assoc, append-nil, length-drop, Option, Some, None, option_map}
 use Rattle.std.proofs.lemmas.List.{take_all}
 use Rattle.cloud_parse.specs.Tokens.{lexeme_at, tokens_behind, tokens, with_token}
 use Rattle.cloud_parse.specs.declared.token.Lexeme.{Lexeme}

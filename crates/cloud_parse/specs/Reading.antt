@@ -1,5 +1,5 @@
 -- Reading a form from tokens: each reader gives a value and the tokens behind it.
-use Rattle.std.specs.Prelude.{◌≡◌, ℕ, zero, suc, ◌+◌, ◌^◌, Bool, true, false, nat_lt, is_none, List, [], ◌∷◌, ◌++◌, length, Option, Some, None, option_and_then, option_map, ◌==◌, if◌then◌else◌}
+use Rattle.std.specs.Prelude.{ℕ, zero, suc, ◌^◌, Bool, true, false, nat_lt, is_none, List, [], ◌∷◌, ◌++◌, length, Option, Some, None, option_and_then, option_map, ◌==◌, if◌then◌else◌}
 use Rattle.std.specs.Str.{bytes_eq}
 use Rattle.cloud_parse.specs.declared.terminal.Terminal.{Terminal}
 use Rattle.cloud_parse.specs.declared.terminal.Terminal.TheVariants as terminal

@@ -93,5 +93,4 @@ impl Globals {
 /// What a log answers to the query of a global is the plain value of its changes.
 pub fn answers_are_plain()
     ensures { (schema : Schema) (log : List Update) (global : ℕ) → cell_type schema global ≡ CellType.Int → answer schema log (Query.Get global []) ≡ Answer.Int (int_plain (changes_of global log)) }
-{
-}
+{}

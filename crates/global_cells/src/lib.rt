@@ -2,5 +2,7 @@
 #![tactic(auto)]
 
 mod globals;
+#[cfg(test)]
+mod tests;
 
 pub use globals::{Globals, answers_are_plain};

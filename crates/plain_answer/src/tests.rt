@@ -28,7 +28,7 @@ const LINE: u16 = 2;
 
 fn property(
     alloc: Global,
-    name: &str,
+    name: &[u8],
     owner: Owner,
     cell: CellType,
     keys: &[KeyType],
@@ -43,7 +43,7 @@ fn property(
     })
 }
 
-fn entity(alloc: Global, name: &str, keys: &[KeyType]) -> Result<Entity, Memory>
+fn entity(alloc: Global, name: &[u8], keys: &[KeyType]) -> Result<Entity, Memory>
     requires { IsName name.now }
 {
     Ok(Entity {
@@ -53,26 +53,26 @@ fn entity(alloc: Global, name: &str, keys: &[KeyType]) -> Result<Entity, Memory>
 }
 
 fn shop(alloc: Global) -> Result<Schema, Memory> {
-    let grocery = Owner::Array(Name::new(alloc, "Grocery")?);
-    let seat = Owner::Array(Name::new(alloc, "Seat")?);
-    let note = Owner::Array(Name::new(alloc, "Note")?);
+    let grocery = Owner::Array(Name::new(alloc, b"Grocery")?);
+    let seat = Owner::Array(Name::new(alloc, b"Seat")?);
+    let note = Owner::Array(Name::new(alloc, b"Note")?);
     let mut properties = Sequence::new(alloc);
-    properties.push(property(alloc, "total", Owner::Global, CellType::Int, &[])?)?;
-    properties.push(property(alloc, "quantity", grocery, CellType::Int, &[KeyType::Text])?)?;
-    properties.push(property(alloc, "who", seat, CellType::Text, &[KeyType::Int])?)?;
-    properties.push(property(alloc, "n", note, CellType::Int, &[KeyType::Id(ORDER)])?)?;
+    properties.push(property(alloc, b"total", Owner::Global, CellType::Int, &[])?)?;
+    properties.push(property(alloc, b"quantity", grocery, CellType::Int, &[KeyType::Text])?)?;
+    properties.push(property(alloc, b"who", seat, CellType::Text, &[KeyType::Int])?)?;
+    properties.push(property(alloc, b"n", note, CellType::Int, &[KeyType::Id(ORDER)])?)?;
     let owner = Owner::Entity(CUSTOMER);
     properties.push(property(
         alloc,
-        "spent",
+        b"spent",
         owner,
         CellType::Int,
         &[KeyType::Id(CUSTOMER)],
     )?)?;
     let mut entities = Sequence::new(alloc);
-    entities.push(entity(alloc, "Customer", &[])?)?;
-    entities.push(entity(alloc, "Order", &[KeyType::Id(CUSTOMER)])?)?;
-    entities.push(entity(alloc, "Line", &[KeyType::Id(ORDER)])?)?;
+    entities.push(entity(alloc, b"Customer", &[])?)?;
+    entities.push(entity(alloc, b"Order", &[KeyType::Id(CUSTOMER)])?)?;
+    entities.push(entity(alloc, b"Line", &[KeyType::Id(ORDER)])?)?;
     Ok(Schema {
         properties,
         entities,

@@ -1,4 +1,4 @@
-use Rattle.std.proofs.Common.{◌∙◌, ap, [], refl}
+use Rattle.std.proofs.Common.{◌∙◌, ap, []}
 use Rattle.cloud_base.specs.Answer.{answer}
 use Rattle.cloud_base.specs.Log.{of_cell}
 use Rattle.cloud_base.specs.PlainCell.{plain_value}

@@ -1,4 +1,4 @@
-use Rattle.std.proofs.Common.{◌≡◌, sym, ap, ◌∙◌, List, [], ◌∷◌, ◌++◌, rules}
+use Rattle.std.proofs.Common.{sym, ap, ◌∙◌, [], ◌∷◌, ◌++◌, rules}
 use Rattle.std.specs.Prelude.{◌+ℤ◌, FitsSigned}
 use Rattle.std.specs.Int.{w64, int_wrap}
 use Rattle.std.proofs.lemmas.Int.{wrapping_add_is}

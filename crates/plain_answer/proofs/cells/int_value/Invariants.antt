@@ -1,4 +1,4 @@
-use Rattle.std.proofs.Common.{◌≡◌, take, drop, length}
+use Rattle.std.proofs.Common.{◌≡◌, take}
 use Rattle.cloud_base.specs.Log.{of_cell}
 use Rattle.cloud_base.specs.PlainCell.{plain_int}
 use Rattle.plain_answer.proofs.cells.int_value.Given as goal

@@ -1,4 +1,3 @@
-use Rattle.std.proofs.Common.{refl}
 use Rattle.cloud_base.specs.PlainCell.{plain_text}
 use Rattle.plain_answer.proofs.cells.text_value.Goals as goal
 

@@ -1,4 +1,4 @@
-use Rattle.std.proofs.Common.{◌≡◌, ◌<◌, ◌-◌, sym, ◌∙◌, arith}
+use Rattle.std.proofs.Common.{◌-◌, sym, ◌∙◌, arith}
 use Rattle.cloud_base.specs.Dead.{dead_within}
 use Rattle.plain_answer.proofs.Links.{one_deeper, found, none_left}
 use Rattle.plain_answer.proofs.ids.+dead_within.Goals as goal

@@ -1,4 +1,4 @@
-use Rattle.std.proofs.Common.{◌≡◌, take, drop, length}
+use Rattle.std.proofs.Common.{◌≡◌, take, length}
 use Rattle.cloud_base.specs.Log.{created}
 use Rattle.std.proofs.Common.{◌≤◌}
 use Rattle.plain_answer.proofs.ids.count_created.Given as goal

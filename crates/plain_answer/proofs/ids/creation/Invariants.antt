@@ -1,4 +1,4 @@
-use Rattle.std.proofs.Common.{◌≡◌, take, drop, length}
+use Rattle.std.proofs.Common.{◌≡◌, drop}
 use Rattle.cloud_base.specs.Log.{creation}
 use Rattle.plain_answer.proofs.ids.creation.Given as goal
 

@@ -1,4 +1,4 @@
-use Rattle.std.proofs.Common.{◌≡◌, take, drop, length}
+use Rattle.std.proofs.Common.{◌≡◌, drop}
 use Rattle.cloud_base.specs.Dead.{has_dead}
 use Rattle.plain_answer.proofs.ids.has_dead.Given as goal
 

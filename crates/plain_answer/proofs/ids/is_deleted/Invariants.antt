@@ -1,4 +1,4 @@
-use Rattle.std.proofs.Common.{◌≡◌, take, drop, length}
+use Rattle.std.proofs.Common.{◌≡◌, drop}
 use Rattle.cloud_base.specs.Log.{is_deleted}
 use Rattle.plain_answer.proofs.ids.is_deleted.Given as goal
 

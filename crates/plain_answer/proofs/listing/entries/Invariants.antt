@@ -1,4 +1,4 @@
-use Rattle.std.proofs.Common.{◌≡◌, take, drop, length}
+use Rattle.std.proofs.Common.{◌≡◌, take}
 use Rattle.cloud_base.specs.Log.{touched}
 use Rattle.cloud_base.specs.Order.{keys_order}
 use Rattle.cloud_base.specs.Sorted.{ascending}

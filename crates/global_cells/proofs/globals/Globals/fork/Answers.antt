@@ -1,5 +1,4 @@
-use Rattle.std.proofs.Common.{◌≡◌, ◌<◌, ◌++◌, ◌∷◌, [], ◌∙◌, length, ap, sym, subst, refl, rules, arith, List}
-use Rattle.std.specs.Prelude.{slice_get, Some}
+use Rattle.std.proofs.Common.{◌≡◌, ◌<◌, ◌++◌, ◌∷◌, [], length, sym, subst, rules, List}
 use Rattle.std.proofs.lemmas.Option.{slice_get-get_or}
 use Rattle.fj_core.specs.declared.int_cell.IntCell.{IntCell}
 use Rattle.global_cells.specs.Cells.{CellsStand}

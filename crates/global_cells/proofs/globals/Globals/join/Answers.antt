@@ -1,4 +1,4 @@
-use Rattle.std.proofs.Common.{◌≡◌, ◌<◌, ◌≤◌, ◌∙◌, length, ap, sym, subst, refl, rules, arith, length-set}
+use Rattle.std.proofs.Common.{◌≡◌, ◌<◌, length, sym, subst, refl, rules}
 use Rattle.std.specs.Prelude.{slice_get, Some}
 use Rattle.std.proofs.lemmas.Option.{slice_get_read, slice_get_within}
 use Rattle.global_cells.specs.Cells.{CellsStand}

@@ -9,5 +9,5 @@ abbrev pub invariant-loop-place : goal.invariant-loop-place
 invariant-loop-place l = record {
   count : length l.self-inside.cells.items ≡ length l.initial.self-inside.cells.items;
   child : l.child-inside.cells.items ≡ l.initial.child-inside.cells.items;
-  joined : (g : ℕ) (cell : IntCell) → slice_get l.self-inside.cells.items g ≡ Some cell → Joined l.initial.self-inside.cells.items l.initial.child-inside.cells.items l.place g cell
+  joined : (g : ℕ) (cell : IntCell) → slice_get l.self-inside.cells.items g ≡ Some cell → Joined l.initial.self-inside.cells.items l.initial.child-inside.cells.items l.place g cell;
 }

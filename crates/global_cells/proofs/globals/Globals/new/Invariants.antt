@@ -5,5 +5,5 @@ use Rattle.global_cells.proofs.globals.Globals.new.Given as goal
 abbrev pub invariant-loop-turn : goal.invariant-loop-turn
 invariant-loop-turn l = record {
   count : length l.cells.items ≡ l._turn;
-  stands : CellsStand l.cells.items [] []
+  stands : CellsStand l.cells.items [] [];
 }
