@@ -86,12 +86,12 @@ fn ends_where_the_turns_do(rt: HostRuntime) -> Result<(), Fail> {
             return Err(Fail::from("not a text"));
         };
         let mut last = "";
-        let mut says = 0;
+        let mut says = 0_u32;
         let mut found = false;
         for line in report.lines() {
             found = found || line == said;
             if line.starts_with("say ") {
-                says += 1;
+                says = says.saturating_add(1);
             }
             last = line;
         }
