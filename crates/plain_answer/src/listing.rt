@@ -41,6 +41,14 @@ pub fn all_ids(alloc: Global, log: &[Update], entity: u16) -> Result<IdList, Mem
     Ok(Sequence::from_vec(ids.into_iter().collect(alloc)?))
 }
 
+fn put(tuples: &mut BTreeSet<Keys>, keys: &Keys) -> Result<(), Memory>
+    ensures { OnOk result (tuples.new.keys ≡ insert_key keys_order tuples.old.keys keys.now) }
+{
+    tuples.insert(keys.copied())?;
+    Ok(())
+}
+
+#[tactic(auto, using(crate::proofs::Kept::fold_kept))]
 fn put_touched(
     tuples: &mut BTreeSet<Keys>,
     schema: &Schema,
@@ -52,7 +60,7 @@ fn put_touched(
 {
     if let Update::Cell(changed, keys, _) = update {
         if *changed == property && is_entry(schema, log, property, keys) {
-            tuples.insert(keys.copied())?;
+            put(&mut *tuples, keys)?;
         }
     }
     Ok(())
