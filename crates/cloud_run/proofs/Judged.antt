@@ -1,5 +1,5 @@
 -- Laws of what each status says.
-use Rattle.std.proofs.Common.{◌≡◌, ℕ, ◌<◌, ◌≤◌, List, [], ◌++◌, length, refl, sym, ap, ◌∙◌, append-nil, length-append, subst, arith, inl, inr}
+use Rattle.std.proofs.Common.{◌≡◌, ℕ, ◌<◌, ◌≤◌, List, [], ◌++◌, length, refl, sym, ap, ◌∙◌, append-nil, length-append, subst, arith, inr}
 use Rattle.std.specs.Prelude.{Option, Some, None, Err, ◌⊎◌}
 use Rattle.cloud_base.specs.Causes.{Rose}
 use Rattle.cloud_parse.specs.Form.{Form, HasForm}

@@ -1,10 +1,10 @@
 -- Laws of what a source hands out and a sink takes.
-use Rattle.std.proofs.Common.{◌≡◌, ℕ, ◌+◌, ◌-◌, ◌≤◌, List, [], ◌++◌, length, take, drop, refl, sym, ap, ◌∙◌, append-nil, append_assoc, subst, arith, length-drop}
+use Rattle.std.proofs.Common.{◌≡◌, ℕ, ◌+◌, ◌-◌, ◌≤◌, List, ◌++◌, length, take, drop, sym, ap, ◌∙◌, append_assoc, arith, length-drop}
 use Rattle.std.proofs.Math.Seq.{take-add, drop-append-add, drop-append_seam}
 use Rattle.std.proofs.lemmas.List.{take_all}
-use Rattle.std.specs.Prelude.{Option, Some, None, Result, Ok, Err}
+use Rattle.std.specs.Prelude.{Option, Some, None, Ok}
 use Rattle.cloud_base.specs.Streams.{Takes}
-use Rattle.cloud_run.specs.Flows.{HandedOut, Parts, AtEnd, Got}
+use Rattle.cloud_run.specs.Flows.{HandedOut, Parts, Got}
 
 -- one more piece of the text
 pub got_more : (E : Type 0) (held before after : Option (List ℕ)) (n at : ℕ) (text piece : List ℕ)

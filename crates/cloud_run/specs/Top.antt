@@ -1,5 +1,5 @@
 -- What a command reads and writes, by its status.
-use Rattle.std.specs.Prelude.{◌≡◌, ℕ, ◌+◌, ◌<◌, ◌≤◌, List, [], ◌∷◌, ◌⊎◌, length, Option, Some, None, codes}
+use Rattle.std.specs.Prelude.{◌≡◌, refl, ℕ, ◌+◌, ◌<◌, ◌≤◌, List, [], ◌∷◌, length, Option, Some, None, codes}
 use Rattle.cloud_base.specs.Causes.{Rose}
 use Rattle.cloud_base.specs.declared.batch.End.{End}
 use Rattle.cloud_parse.specs.Form.{Form, IsForm, HasForm}
@@ -83,3 +83,8 @@ IsReadRefusal status.ReadFault = Unit {0}
 IsReadRefusal status.WriteFault = ⊥
 IsReadRefusal (status.Limit w) = Unit {0}
 IsReadRefusal status.Memory = Unit {0}
+
+module _ where
+  -- where memory ran out the sink holds what it held, and where the words are wrong no end was looked for
+  pub example_nothing_written : Writes status.Memory (Some (codes "schema { ")) (Some []) (Some (codes "x")) (Some (codes "x")) × EndSeen status.Words 3 3
+  example_nothing_written = (refl, refl)

@@ -74,10 +74,10 @@ fn prints_reports(rt: HostRuntime) -> Result<(), Fail> {
 #[test]
 fn ends_where_the_turns_do(rt: HostRuntime) -> Result<(), Fail> {
     let alloc = rt.alloc();
-    for (statement, times, said, end) in [
-        (" print g;", 8_192, "say 1 0", "end a Done"),
-        (" print g;", 8_193, "say 1 0", "end a Spent"),
-        (" yield;", 8_191, "mark 1 yield", "end a Done"),
+    for (statement, times, step, steps, end) in [
+        (" print g;", 8_192, "say 1 0", 8_192, "end a Done\n"),
+        (" print g;", 8_193, "say 1 0", 8_192, "end a Spent\n"),
+        (" yield;", 8_191, "mark ", 8_191, "end a Done\n"),
     ] {
         let text = repeated(alloc, statement, times)?;
         let (status, sink) = played(alloc, text.as_str())?;
@@ -85,20 +85,9 @@ fn ends_where_the_turns_do(rt: HostRuntime) -> Result<(), Fail> {
         let Ok(report) = str::from_utf8(sink.held()) else {
             return Err(Fail::from("not a text"));
         };
-        let mut last = "";
-        let mut says = 0_u32;
-        let mut found = false;
-        for line in report.lines() {
-            found = found || line == said;
-            if line.starts_with("say ") {
-                says = says.saturating_add(1);
-            }
-            last = line;
-        }
-        assert!(rt; found, "at {times} of {statement}");
-        assert_eq!(rt; last, end);
-        let wanted = if statement == " print g;" { 8_192 } else { 0 };
-        assert_eq!(rt; says, wanted);
+        let found = report.lines().filter(|line| line.starts_with(step)).count();
+        assert_eq!(rt; found, steps, "at {times} of {statement}");
+        assert!(rt; report.ends_with(end), "at {times} of {statement}");
     }
     Ok(())
 }

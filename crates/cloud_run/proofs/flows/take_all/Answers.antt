@@ -1,4 +1,4 @@
-use Rattle.std.proofs.Common.{arith, length}
+use Rattle.std.proofs.Common.{arith}
 use Rattle.std.proofs.lemmas.List.{length-take}
 use Rattle.cloud_run.specs.Top.{most_read}
 use Rattle.cloud_run.proofs.Pieces.{handed_more}
