@@ -1,12 +1,11 @@
 -- The acts that begin, and the turns of a run of acts.
-use Rattle.std.proofs.Common.{◌≡◌, ℕ, zero, suc, ◌+◌, ◌-◌, ◌≤◌, ◌<◌, Bool, true, false, ◌||◌, cond, nat_lt, List, [], ◌∷◌, ◌++◌, length, drop, refl, ap, sym, ◌∙◌, arith, append_assoc}
-use Rattle.std.specs.List.{AllByRecursion, count_by, list_any}
+use Rattle.std.proofs.Common.{◌≡◌, ℕ, zero, suc, ◌+◌, ◌-◌, ◌≤◌, Bool, true, false, ◌||◌, cond, nat_lt, List, [], ◌∷◌, ◌++◌, length, refl, ap, sym, ◌∙◌, arith, append_assoc}
+use Rattle.std.specs.List.{AllByRecursion, count_by}
 use Rattle.std.proofs.lemmas.Bool.Decides.{nat_tests}
 use Rattle.cloud_base.specs.declared.batch.End.TheVariants.{Done, Spent}
 use Rattle.cloud_base.specs.declared.schema.Schema.{Schema}
 use Rattle.cloud_parse.specs.declared.tree.Act.{Act}
 use Rattle.cloud_parse.specs.declared.tree.Act.TheVariants.{Change, Print, Yield}
-use Rattle.cloud_parse.specs.Form.{ActFits}
 use Rattle.one_client.specs.Program.{cost, begun, end_from}
 use Rattle.one_client.specs.Steps.{Run, is_yield, goes_on, steps_from}
 use Rattle.revision_diagram.specs.declared.step.Step.{Step}

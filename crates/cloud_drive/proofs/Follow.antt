@@ -1,6 +1,6 @@
 -- What a player follows, after an act.
-use Rattle.std.proofs.Common.{◌≡◌, ℕ, ◌+◌, Bool, true, false, cond, List, [], ◌∷◌, ◌++◌, refl, ap, sym, ◌∙◌, append_assoc, append-nil, arith, zero, suc}
-use Rattle.std.specs.Prelude.{Option, Some, None, map}
+use Rattle.std.proofs.Common.{◌≡◌, ℕ, ◌+◌, Bool, cond, List, [], ◌∷◌, ◌++◌, refl, ap, ◌∙◌, append_assoc, zero, suc}
+use Rattle.std.specs.Prelude.{Some, None, map}
 use Rattle.cloud_base.specs.Shaped.{cell_type}
 use Rattle.cloud_base.specs.declared.schema.CellType.TheVariants.{Int}
 use Rattle.cloud_base.specs.declared.update.Update.{Update}

@@ -1,4 +1,4 @@
-use Rattle.std.proofs.Common.{◌≡◌, ◌++◌, ◌∙◌, sym, subst}
+use Rattle.std.proofs.Common.{◌≡◌, ◌++◌, sym, subst}
 use Rattle.std.specs.Prelude.{IfOk}
 use Rattle.cloud_parse.specs.declared.tree.Act.{Act}
 use Rattle.cloud_parse.specs.Form.{Form}

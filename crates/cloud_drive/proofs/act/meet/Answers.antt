@@ -1,5 +1,5 @@
-use Rattle.std.proofs.Common.{◌≡◌, ◌+◌, ◌∷◌, [], ◌++◌, ◌∙◌, ap, sym, append-nil, cond, true, false}
-use Rattle.std.specs.Prelude.{unwrap_or, option_map, Option}
+use Rattle.std.proofs.Common.{◌≡◌, ◌+◌, ◌∷◌, [], ◌++◌, ◌∙◌, ap, sym, append-nil, cond, false}
+use Rattle.std.specs.Prelude.{unwrap_or, option_map}
 use Rattle.revision_diagram.specs.declared.step.Step.TheVariants.{Mark, Fork, Join}
 use Rattle.one_client.specs.Steps.{pull, pulled}
 use Rattle.global_cells.specs.Cells.{CellsStand}

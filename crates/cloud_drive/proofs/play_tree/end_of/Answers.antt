@@ -1,4 +1,4 @@
-use Rattle.std.proofs.Common.{◌≡◌, ◌∙◌, ap, sym, length}
+use Rattle.std.proofs.Common.{◌∙◌, ap, sym, length}
 use Rattle.one_client.specs.Program.{budget, begun}
 use Rattle.cloud_drive.proofs.Begun.{done_if, spent_if}
 use Rattle.cloud_drive.proofs.play_tree.end_of.Goals as goal

@@ -1,4 +1,4 @@
-use Rattle.std.proofs.Common.{◌≡◌, ◌+◌, ◌<◌, ◌∷◌, [], ◌++◌, ◌∙◌, ap, sym, drop, drop-cons, length, subst, arith, nat_lt, append-nil, false, suc, get_or}
+use Rattle.std.proofs.Common.{◌≡◌, ◌+◌, ◌∷◌, [], ◌++◌, ◌∙◌, ap, sym, drop, drop-cons, subst, arith, nat_lt, append-nil, false, suc, get_or}
 use Rattle.std.specs.List.{AllByRecursion}
 use Rattle.std.proofs.lemmas.List.{drop_all}
 use Rattle.cloud_parse.specs.declared.tree.Act.{Act}

@@ -1,4 +1,4 @@
-use Rattle.std.proofs.Common.{◌≡◌, ℕ, List, ◌∙◌, ap, sym, subst, length}
+use Rattle.std.proofs.Common.{ℕ, List, ◌∙◌, ap, sym, subst, length}
 use Rattle.std.specs.List.{AllByRecursion}
 use Rattle.cloud_parse.specs.declared.tree.Act.{Act}
 use Rattle.cloud_parse.specs.Form.{ActFits}
