@@ -1,6 +1,7 @@
 -- Which ids of a log are dead.
 use Rattle.std.specs.Prelude.{◌≡◌, refl, ℕ, zero, suc, ◌≤◌, Bool, true, false, not, ◌&&◌, ◌||◌, List, [], ◌∷◌, length, pos, IsTrue, Contains}
 use Rattle.std.specs.List.{list_any}
+use Rattle.std.proofs.Common.{lit<, lit≤}
 use Rattle.cloud_base.specs.Values.{Id}
 use Rattle.cloud_base.specs.Log.{created, is_deleted, is_created, parents, ids_of}
 use Rattle.cloud_base.specs.declared.key.Key.{Key}
@@ -47,6 +48,10 @@ module _ where
   abbrev shop : List Update
   shop = Create customer 0 [] ∷ Create order 1 (Ref customer ∷ []) ∷ Create line 2 (Int (pos 4) ∷ Ref order ∷ []) ∷ []
 
+  -- the chain from a line over its order to a deleted customer
+  pub example_chain : Dead (Delete customer ∷ shop) line
+  example_chain = (2, lit≤ tt, (order, (0, lit< tt, refl), (customer, (0, lit< tt, refl), refl)))
+
   -- with a customer its order dies, and the line of the order
   pub example_three_deep : is_dead (Delete customer ∷ shop) line ≡ true
   unfolding is_dead
@@ -60,3 +65,8 @@ module _ where
   pub example_created_nowhere : (is_dead (Delete customer ∷ []) customer ≡ true) × (is_dead (Delete customer ∷ []) order ≡ false) × (is_alive (Delete customer ∷ []) order ≡ false)
   unfolding is_dead
   example_created_nowhere = (refl, refl, refl)
+
+  -- what is kept by an order goes with its customer, what is kept by a number doesn't
+  pub example_keys : (has_dead (Delete customer ∷ shop) (Int (pos 4) ∷ Ref order ∷ []) ≡ true) × (has_dead (Delete customer ∷ shop) (Int (pos 4) ∷ []) ≡ false) × (is_alive shop order ≡ true)
+  unfolding is_dead
+  example_keys = (refl, refl, refl)

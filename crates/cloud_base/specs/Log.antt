@@ -1,5 +1,5 @@
 -- What a log holds: the changes of one cell, the creations and the deletions.
-use Rattle.std.specs.Prelude.{◌≡◌, refl, pos, ℕ, Bool, false, ◌&&◌, ◌||◌, ◌==◌, if◌then◌else◌, Option, Some, None, is_some, List, [], ◌∷◌}
+use Rattle.std.specs.Prelude.{◌≡◌, refl, pos, ℕ, Bool, true, false, ◌&&◌, ◌||◌, ◌==◌, if◌then◌else◌, Option, Some, None, is_some, List, [], ◌∷◌}
 use Rattle.cloud_base.specs.Values.{Id}
 use Rattle.cloud_base.specs.Order.{same_id, same_keys}
 use Rattle.cloud_base.specs.declared.key.Key.{Key}
@@ -86,3 +86,17 @@ module _ where
   -- the first creation counts
   pub example_created_twice : creation first sample ≡ Some (record { entity = 3; keys = Int (pos 2) ∷ [] })
   example_created_twice = refl
+
+  abbrev second : Id
+  second = record { client = 1; serial = 0 }
+
+  -- each change names its keys, and each creation its id, also where it was there before
+  pub example_lists : (touched 0 sample ≡ (Int (pos 1) ∷ []) ∷ (Int (pos 1) ∷ []) ∷ []) × (created sample ≡ first ∷ first ∷ [])
+  example_lists = (refl, refl)
+
+  abbrev owned : List Update
+  owned = Create second 3 (Int (pos 2) ∷ Ref first ∷ []) ∷ Delete second ∷ []
+
+  -- a parent need not be created, and with the id its parent isn't deleted
+  pub example_parents : (parents owned second ≡ first ∷ []) × (is_created first owned ≡ false) × (is_deleted second owned ≡ true) × (is_deleted first owned ≡ false) × (is_of 3 (creation second owned) ≡ true)
+  example_parents = (refl, refl, refl, refl, refl)

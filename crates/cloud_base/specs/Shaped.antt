@@ -1,9 +1,9 @@
 -- Updates, queries and answers of a schema's shape, and fit logs.
-use Rattle.std.specs.Prelude.{pos, ℕ, ◌≤◌, ◌<◌, ◌^◌, ⊤, List, [], ◌∷◌, length, All, Contains, Option, MatchOption, slice_get, FitsSigned}
+use Rattle.std.specs.Prelude.{refl, true, pos, ℕ, ◌≤◌, ◌<◌, ◌^◌, ⊤, List, [], ◌∷◌, length, All, Contains, Option, MatchOption, slice_get, FitsSigned}
 use Rattle.std.specs.Int.{w64}
 use Rattle.std.specs.Option.{option_map_or}
-use Rattle.std.proofs.Common.{lit<, lit≤}
-use Rattle.std.proofs.lemmas.List.Elements.{All-nil}
+use Rattle.std.proofs.Common.{lit<, lit≤, lt→ltb}
+use Rattle.std.proofs.lemmas.List.Elements.{All-nil, All-cons}
 use Rattle.cloud_base.specs.declared.schema.Owner.TheVariants.{Array}
 use Rattle.cloud_base.specs.Values.{Id, IsPrintable, IsText, most_clients, most_keys}
 use Rattle.cloud_base.specs.Log.{created}
@@ -120,3 +120,14 @@ module _ where
   -- neither another type of key, nor another number of keys, nor another type's change
   pub example_no_shape : (IsShaped seats (Cell 0 (TextKey [] ∷ []) (SetText [])) → ⊥) × (IsShaped seats (Cell 0 [] (SetText [])) → ⊥) × (IsShaped seats (Cell 0 (IntKey (pos 1) ∷ []) (Add (pos 1))) → ⊥) × (IsShaped seats (Cell 1 (IntKey (pos 1) ∷ []) (SetText [])) → ⊥)
   example_no_shape = (λ h. h.0.1.1.0, λ h. h.0.1.1, λ h. h.1, λ h. h.0.1)
+
+  abbrev first : Id
+  first = record { client = 0; serial = 0 }
+
+  -- a seat may be asked for, a property that isn't there not; a seat's value is a text and no integer
+  pub example_asked : IsShapedQuery seats (Get 0 (IntKey (pos 1) ∷ [])) × (¬ IsShapedQuery seats (Entries 1)) × IsShapedAnswer seats (Alive first) (Truth true) × IsShapedAnswer seats (Get 0 (IntKey (pos 1) ∷ [])) (Text []) × ¬ IsShapedAnswer seats (Get 0 (IntKey (pos 1) ∷ [])) (Int (pos 1))
+  example_asked = ((lit< tt, (lit≤ tt, (record { sfits = lit< tt }, tt))), λ h. lt→ltb 1 1 h.1, tt, (lit≤ tt, All-nil IsPrintable), λ h. h)
+
+  -- a log with one seat taken is fit, and one that creates an id twice isn't
+  pub example_fit : Fit seats (Cell 0 (IntKey (pos 1) ∷ []) (SetText []) ∷ []) × ¬ CreatedOnce (Create first 0 [] ∷ Create first 0 [] ∷ [])
+  example_fit = (record { shaped = All-cons (IsShaped seats) (Cell 0 (IntKey (pos 1) ∷ []) (SetText [])) [] example_shaped (All-nil (IsShaped seats)); once = tt }, λ h. h.0 (0, lit< tt, refl))

@@ -1,5 +1,7 @@
 -- What a read hands out and what a write takes, where the object tells it.
-use Rattle.std.specs.Prelude.{◌≡◌, ℕ, ◌≤◌, ◌-◌, ◌+◌, ◌^◌, List, [], ◌++◌, ◌⊎◌, length, take, drop, min, Bool, false, if◌then◌else◌, ◌==◌, Option, Some, None, Result, Ok, Err}
+use Rattle.std.specs.Prelude.{◌≡◌, refl, ◌∷◌, ℕ, ◌≤◌, ◌-◌, ◌+◌, ◌^◌, List, [], ◌++◌, ◌⊎◌, length, take, drop, min, Bool, false, if◌then◌else◌, ◌==◌, Option, Some, None, Result, Ok, Err}
+use Rattle.std.proofs.Common.{lit≤}
+use Rattle.std.proofs.Math.Nat.{suc-ne-zero}
 use Rattle.cloud_base.specs.Causes.{Rose}
 
 -- a read of a source that had these bytes left: the first of them are handed out and the others stay;
@@ -83,3 +85,42 @@ after_write w piece = if length w.held == w.room then record w { faults = counte
 -- what that write answers: a refusal, or a count
 abbrev pub write_answer : Writing → List ℕ → Option ℕ
 write_answer w piece = if length w.held == w.room then None else Some (write_count w piece)
+
+module _ where
+  -- the first byte is handed out, and the other one stays
+  pub example_hands : Hands {E = ℕ} (97 ∷ 98 ∷ []) (Some (98 ∷ [])) (Ok 1) (97 ∷ 0 ∷ [])
+  example_hands = (lit≤ tt, refl, refl, λ e. absurd (suc-ne-zero 0 e))
+
+  -- an end is counted, and an answer of one byte isn't an end
+  pub example_ends : Ends {E = ℕ} 4 5 (Ok 0) × Ends {E = ℕ} 4 4 (Ok 1)
+  example_ends = ((lit≤ tt, λ e. lit≤ tt, λ no. absurd (no refl)), (lit≤ tt, λ e. absurd (suc-ne-zero 0 e), λ no. refl))
+
+  pub example_takes : Takes {E = ℕ} (Some (97 ∷ [])) (Some (97 ∷ 98 ∷ [])) (Ok 1) (98 ∷ 99 ∷ [])
+  example_takes = refl
+
+  -- three bytes are left, a call hands out two at most, and the call after the next one fails
+  abbrev three : Reading
+  three = record { left = 97 ∷ 98 ∷ 99 ∷ []; piece = 2; fails_in = Some 2; faults = 0; ends = 0 }
+
+  abbrev one : Reading
+  one = record { left = 99 ∷ []; piece = 2; fails_in = Some 1; faults = 0; ends = 0 }
+
+  abbrev none : Reading
+  none = record { left = []; piece = 2; fails_in = Some 0; faults = 0; ends = 0 }
+
+  pub example_reads : (read_answer three 8 ≡ Some 2) × (after_read three 8 ≡ one) × (read_answer one 8 ≡ Some 1) × (after_read one 8 ≡ none)
+  example_reads = (refl, refl, refl, refl)
+
+  -- the third call fails and is counted, and the one after it tells the end
+  pub example_fault : (read_answer none 8 ≡ None) × (after_read none 8 ≡ record none { fails_in = None; faults = 1 }) × (after_read (after_read none 8) 8 ≡ record none { fails_in = None; faults = 1; ends = 1 })
+  example_fault = (refl, refl, refl)
+
+  abbrev room_for_two : Writing
+  room_for_two = record { held = 97 ∷ []; piece = 4; room = 2; faults = 0 }
+
+  abbrev full : Writing
+  full = record { held = 97 ∷ 98 ∷ []; piece = 4; room = 2; faults = 0 }
+
+  -- what there is room for is taken, and the call that finds the sink full fails
+  pub example_writes : (write_answer room_for_two (98 ∷ 99 ∷ []) ≡ Some 1) × (after_write room_for_two (98 ∷ 99 ∷ []) ≡ full) × (write_answer full (99 ∷ []) ≡ None) × (after_write full (99 ∷ []) ≡ record full { faults = 1 })
+  example_writes = (refl, refl, refl, refl)

@@ -1,5 +1,7 @@
 -- Why bytes are no text, and two texts put together.
-use Rattle.std.specs.Prelude.{◌≡◌, ℕ, ◌≤◌, ◌<◌, List, ◌++◌, length, take, replicate, refl, All, slice_index}
+use Rattle.std.specs.Prelude.{◌≡◌, ℕ, ◌≤◌, ◌<◌, List, [], ◌∷◌, ◌++◌, length, take, replicate, refl, All, slice_index}
+use Rattle.std.proofs.Common.{lit<, lit≤, le→leb}
+use Rattle.std.proofs.lemmas.List.Elements.{All-nil, All-cons}
 use Rattle.cloud_base.specs.Values.{IsPrintable}
 use Rattle.cloud_base.specs.declared.text.TextFault.{TextFault}
 use Rattle.cloud_base.specs.declared.text.TextFault.TheVariants.{TooLong, BadByte}
@@ -8,6 +10,10 @@ use Rattle.cloud_base.specs.declared.text.TextFault.TheVariants.{TooLong, BadByt
 abbrev pub HasFault : List ℕ → TextFault → Type 0
 HasFault bytes (TooLong len) = (128 < length bytes) × (len ≡ length bytes)
 HasFault bytes (BadByte at) = (length bytes ≤ 128) × (at < length bytes) × (¬ IsPrintable (slice_index bytes at)) × All IsPrintable (take at bytes)
+
+-- a text of 129 letters, and one with a line feed behind a letter
+pub example_faults : HasFault (replicate 129 120) (TooLong 129) × HasFault (97 ∷ 10 ∷ []) (BadByte 1)
+example_faults = ((lit< tt, refl), (lit≤ tt, lit< tt, λ h. le→leb 32 10 h.0, All-cons IsPrintable 97 [] (lit≤ tt, lit< tt) (All-nil IsPrintable)))
 
 -- the first 128 bytes of two texts in order
 unfoldable pub cat_text : List ℕ → List ℕ → List ℕ

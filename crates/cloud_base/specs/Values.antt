@@ -1,5 +1,7 @@
 -- Values: texts, names and ids.
-use Rattle.std.specs.Prelude.{ℕ, ◌≤◌, ◌<◌, List, [], ◌∷◌, length, All, Bool, true, false, ◌&&◌, ◌||◌, nat_le, ◌==◌, IsTrue}
+use Rattle.std.specs.Prelude.{◌≡◌, refl, codes, ℕ, ◌≤◌, ◌<◌, List, [], ◌∷◌, length, All, Bool, true, false, ◌&&◌, ◌||◌, nat_le, ◌==◌, IsTrue}
+use Rattle.std.proofs.Common.{lit<, lit≤, le→leb, lt→ltb}
+use Rattle.std.proofs.lemmas.List.Elements.{All-nil, All-cons, All-head}
 
 -- a printable byte
 abbrev pub IsPrintable : ℕ → Type 0
@@ -44,3 +46,14 @@ is_name (b ∷ bytes) = is_letter b && all_name_bytes bytes
 
 abbrev pub IsName : List ℕ → Type 0
 IsName bytes = IsTrue (is_name bytes)
+
+-- a space and a tilde are printable, and the bytes just beyond them aren't
+pub example_printable : IsPrintable 32 × IsPrintable 126 × (¬ IsPrintable 31) × (¬ IsPrintable 127)
+example_printable = ((lit≤ tt, lit< tt), (lit≤ tt, lit< tt), λ h. le→leb 32 31 h.0, λ h. lt→ltb 127 127 h.1)
+
+-- one letter is a text, and a line feed isn't
+pub example_text : IsText (97 ∷ []) × ¬ IsText (10 ∷ [])
+example_text = ((lit≤ tt, All-cons IsPrintable 97 [] (lit≤ tt, lit< tt) (All-nil IsPrintable)), λ h. le→leb 32 10 (All-head IsPrintable 10 [] h.1).0)
+
+pub example_names : (is_name (codes "_a1") ≡ true) × (is_name (codes "1a") ≡ false) × (is_name (codes "a-b") ≡ false) × (is_name [] ≡ false)
+example_names = (refl, refl, refl, refl)

@@ -1,5 +1,5 @@
 // Ids and keys.
-ghost use Rattle.std.specs.Prelude.{◌≡◌, ◌≤◌, ◌<◌, ◌++◌, [], ◌∷◌, length, All};
+ghost use Rattle.std.specs.Prelude.{◌≡◌, ◌≤◌, ◌<◌, ◌++◌, [], ◌∷◌, length, All, pos};
 ghost use Rattle.cloud_base.specs.Values.{most_keys, most_clients};
 
 use crate::text::Text;
@@ -8,9 +8,6 @@ use std::marker::Model;
 
 /// The most keys of a cell or an entity.
 pub const MOST_KEYS: usize = 3;
-
-/// The most clients of a program.
-pub const MOST_CLIENTS: u8 = 8;
 
 /// The id of a created entity: the client that created it, below 8, and its serial, how many that
 /// client had created before.
@@ -65,7 +62,9 @@ pub enum Key {
 }
 
 impl Default for Key {
-    fn default() -> Key {
+    fn default() -> Key
+        ensures { result ≡ Key.Int (pos 0) }
+    {
         Key::Int(0)
     }
 }
