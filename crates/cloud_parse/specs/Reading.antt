@@ -1,5 +1,5 @@
 -- Reading a form from tokens: each reader gives a value and the tokens behind it.
-use Rattle.std.specs.Prelude.{ℕ, zero, suc, ◌^◌, Bool, true, false, nat_lt, is_none, List, [], ◌∷◌, ◌++◌, length, Option, Some, None, option_and_then, option_map, ◌==◌, if◌then◌else◌}
+use Rattle.std.specs.Prelude.{◌≡◌, refl, codes, ℕ, zero, suc, ◌-◌, ◌^◌, Bool, true, false, nat_lt, is_none, List, [], ◌∷◌, ◌++◌, length, Option, Some, None, option_and_then, option_map, ◌==◌, if◌then◌else◌}
 use Rattle.std.specs.Str.{bytes_eq}
 use Rattle.cloud_parse.specs.declared.terminal.Terminal.{Terminal}
 use Rattle.cloud_parse.specs.declared.terminal.Terminal.TheVariants as terminal
@@ -11,7 +11,7 @@ use Rattle.cloud_parse.specs.declared.tree.Operation.TheVariants.{Add, Set}
 use Rattle.cloud_parse.specs.declared.tree.Act.{Act}
 use Rattle.cloud_parse.specs.declared.tree.Act.TheVariants.{Change, Print, Yield}
 use Rattle.cloud_parse.specs.Terminals.{terminal_text}
-use Rattle.cloud_parse.specs.Form.{Form, place_of, most_globals}
+use Rattle.cloud_parse.specs.Form.{Form, place_of, most_globals, global_tokens}
 
 infixl 10 ◌>>=◌
 abbrev pub ◌>>=◌ : {A B : Type 0} → Option A → (A → Option B) → Option B
@@ -149,3 +149,45 @@ form_at tokens = do
   client ← client_opening globals.1
   acts ← body_at globals.0 client.1
   if length acts.1 == 0 then Some (record { globals = globals.0; client = client.0; acts = acts.0 }) else None
+
+-- a number with a minus, and what is behind it; the greatest number; the first that is too great
+pub example_amount_at : (amount_at (Fixed terminal.Minus ∷ Number 2 ∷ Fixed terminal.CloseParen ∷ []) ≡ Some (record { minus = true; number = 2 }, Fixed terminal.CloseParen ∷ []))
+    × (amount_at (Number (2 ^ 63 - 1) ∷ []) ≡ Some (record { minus = false; number = 2 ^ 63 - 1 }, [])) × (amount_at (Number (2 ^ 63) ∷ []) ≡ None)
+unfolding amount_at number_at behind
+example_amount_at = (refl, refl, refl)
+
+module _ where
+  abbrev print : List ℕ → List Token
+  print name = Fixed terminal.Print ∷ Name name ∷ Fixed terminal.Semicolon ∷ []
+
+  -- g.add(-NUMBER);
+  abbrev take_away : ℕ → List Token
+  take_away number =
+      Name (codes "g") ∷ Fixed terminal.Dot ∷ Fixed terminal.Add ∷ Fixed terminal.OpenParen ∷ Fixed terminal.Minus ∷ Number number ∷ Fixed terminal.CloseParen ∷ Fixed terminal.Semicolon ∷ []
+
+  -- schema { globals } client a { acts }
+  abbrev source : List Token → List Token → List Token
+  source globals acts =
+      Fixed terminal.Schema ∷ Fixed terminal.OpenBrace ∷ (globals ++ (Fixed terminal.CloseBrace ∷ Fixed terminal.Client ∷ Name (codes "a") ∷ Fixed terminal.OpenBrace ∷ (acts ++ (Fixed terminal.CloseBrace ∷ []))))
+
+  -- an act names the second of two globals by its place, which is 1; the next act is behind it
+  pub example_act_at : act_at (codes "f" ∷ codes "g" ∷ []) (print (codes "g") ++ print (codes "f")) ≡ Some (Print 1, print (codes "f"))
+  unfolding act_at print_at global_at name_at behind
+  example_act_at = refl
+
+  -- neither globals nor acts
+  pub example_smallest : form_at (source [] []) ≡ Some (record { globals = []; client = codes "a"; acts = [] })
+  unfolding form_at schema_at schema_opening globals_at client_opening name_at body_at acts_at behind
+  example_smallest = refl
+
+  -- a global, and an act of each kind
+  pub example_form_at : form_at (source (global_tokens (codes "g")) (take_away 2 ++ (print (codes "g") ++ (Fixed terminal.Yield ∷ Fixed terminal.Semicolon ∷ []))))
+      ≡ Some (record { globals = codes "g" ∷ []; client = codes "a"; acts = Change 0 Add (record { minus = true; number = 2 }) ∷ Print 0 ∷ Yield ∷ [] })
+  unfolding form_at schema_at schema_opening globals_at declared_at client_opening name_at body_at acts_at act_at print_at change_at global_at operation_at amount_at number_at behind
+  example_form_at = refl
+
+  -- no form: an act on a global that isn't declared, a global declared twice, a number of 2^63, a token behind the end
+  pub example_no_form : (form_at (source (global_tokens (codes "f")) (print (codes "g"))) ≡ None) × (form_at (source (global_tokens (codes "g") ++ global_tokens (codes "g")) []) ≡ None)
+      × (form_at (source (global_tokens (codes "g")) (take_away (2 ^ 63))) ≡ None) × (form_at (source [] [] ++ (Fixed terminal.Semicolon ∷ [])) ≡ None)
+  unfolding form_at schema_at schema_opening globals_at declared_at client_opening name_at body_at acts_at act_at print_at change_at global_at operation_at amount_at number_at behind
+  example_no_form = (refl, refl, refl, refl)

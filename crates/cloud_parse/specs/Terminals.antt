@@ -1,5 +1,5 @@
 -- How each fixed token is written.
-use Rattle.std.specs.Prelude.{ℕ, List, codes}
+use Rattle.std.specs.Prelude.{◌≡◌, refl, ℕ, List, [], ◌∷◌, codes}
 use Rattle.cloud_parse.specs.declared.terminal.Terminal.{Terminal}
 use Rattle.cloud_parse.specs.declared.terminal.Terminal.TheVariants as variants
 
@@ -65,3 +65,11 @@ terminal_text variants.Minus = codes "-"
 terminal_text variants.Times = codes "*"
 terminal_text variants.Divide = codes "/"
 terminal_text variants.Remainder = codes "%"
+
+-- the bytes of a symbol and of a reserved word
+pub example_terminal_text : (terminal_text variants.LessOrEqual ≡ 60 ∷ 61 ∷ []) × (terminal_text variants.In ≡ 105 ∷ 110 ∷ [])
+example_terminal_text = (refl, refl)
+
+-- a capital letter is another byte than the small one
+pub example_capital : (terminal_text variants.CInt ≡ 67 ∷ 73 ∷ 110 ∷ 116 ∷ []) × (terminal_text variants.Int ≡ 105 ∷ 110 ∷ 116 ∷ [])
+example_capital = (refl, refl)
