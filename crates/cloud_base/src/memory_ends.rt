@@ -159,3 +159,39 @@ impl Sink for MemSink {
         Ok(count)
     }
 }
+
+#[cfg(test)]
+mod tests {
+    use super::*;
+    use std::test::Fail;
+
+    #[test]
+    fn a_source_hands_out_pieces(rt: HostRuntime) -> Result<(), Fail> {
+        let mut source = MemSource::new(rt.alloc(), b"abc", 2, Some(2))?;
+        let mut into = [0; 8];
+        for (answer, front) in [
+            (Ok(2), b"ab".as_slice()),
+            (Ok(1), b"c"),
+            (Err(Failed), b"c"),
+            (Ok(0), b"c"),
+        ] {
+            assert!(rt; source.read(&mut into) == answer);
+            assert!(rt; into.starts_with(front));
+        }
+        Ok(())
+    }
+
+    #[test]
+    fn a_sink_takes_what_it_has_room_for(rt: HostRuntime) -> Result<(), Fail> {
+        let mut sink = MemSink::new(rt.alloc(), 2, 3)?;
+        for (answer, held) in [
+            (Ok(2), b"ab".as_slice()),
+            (Ok(1), b"aba"),
+            (Err(Failed), b"aba"),
+        ] {
+            assert!(rt; sink.write(b"abc") == answer);
+            assert_eq!(rt; sink.held(), held);
+        }
+        Ok(())
+    }
+}

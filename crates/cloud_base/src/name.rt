@@ -55,3 +55,16 @@ impl Name {
         self.text.as_str()
     }
 }
+
+#[cfg(test)]
+mod tests {
+    use super::*;
+    use std::test::Fail;
+
+    #[test]
+    fn a_name_is_its_bytes(rt: HostRuntime) -> Result<(), Fail> {
+        let name = Name::new(rt.alloc(), b"_Grocery1")?;
+        assert_eq!(rt; name.copy(rt.alloc())?.as_str(), "_Grocery1");
+        Ok(())
+    }
+}

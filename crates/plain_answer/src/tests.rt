@@ -26,6 +26,8 @@ const ORDER: u16 = 1;
 
 const LINE: u16 = 2;
 
+const PARCEL: u16 = 3;
+
 fn property(
     alloc: Global,
     name: &[u8],
@@ -73,6 +75,7 @@ fn shop(alloc: Global) -> Result<Schema, Memory> {
     entities.push(entity(alloc, b"Customer", &[])?)?;
     entities.push(entity(alloc, b"Order", &[KeyType::Id(CUSTOMER)])?)?;
     entities.push(entity(alloc, b"Line", &[KeyType::Id(ORDER)])?)?;
+    entities.push(entity(alloc, b"Parcel", &[KeyType::Id(LINE)])?)?;
     Ok(Schema {
         properties,
         entities,
@@ -160,13 +163,15 @@ fn case(log: Vec<Update>, query: Query, expected: Answer) -> Row {
 
 // Two clients' logs in both orders, sums at both ends, and entries.
 fn cells(alloc: Global) -> Result<Vec<Row>, Memory> {
-    let milk = Query::Get(GROCERY, named(b"milk"));
     let ann_first = vec![in alloc; buy(b"milk", 2), buy(b"milk", 1), buy(b"eggs", 12)]?;
     let bob_first = vec![in alloc; buy(b"milk", 1), buy(b"eggs", 12), buy(b"milk", 2)]?;
     let mut cases = Vec::new(alloc);
-    cases.push(case(ann_first, milk, Answer::Int(3)))?;
-    let listed = tuples(vec![in alloc; named(b"eggs"), named(b"milk")]?);
-    cases.push(case(bob_first, Query::Entries(GROCERY), listed))?;
+    for log in [ann_first, bob_first] {
+        let milk = Query::Get(GROCERY, named(b"milk"));
+        cases.push(case(copy(alloc, &log)?, milk, Answer::Int(3)))?;
+        let listed = tuples(vec![in alloc; named(b"eggs"), named(b"milk")]?);
+        cases.push(case(log, Query::Entries(GROCERY), listed))?;
+    }
 
     let seat = Query::Get(SEAT, one(Key::Int(1)));
     let log = vec![in alloc; sit(b"ann"), sit(b"bob")]?;
@@ -195,13 +200,22 @@ fn cells(alloc: Global) -> Result<Vec<Row>, Memory> {
     Ok(cases)
 }
 
-// A customer, her order and its line: alive, and with the customer deleted.
+// A customer, her order, its line and the parcel of the line: alive, and with the customer deleted.
 fn entities(alloc: Global) -> Result<Vec<Row>, Memory> {
     let customer = Update::Create(id(0), CUSTOMER, Keys::empty());
     let order = Update::Create(id(1), ORDER, of(0));
     let line = Update::Create(id(2), LINE, of(1));
+    let parcel = Update::Create(id(3), PARCEL, of(2));
     let spent = Update::Cell(SPENT, of(0), CellChange::SetInt(9));
-    let alive = vec![in alloc; customer, order, line, note(1, 1), spent, note(1, 5)]?;
+    let alive = vec![in alloc;
+        customer,
+        order,
+        line,
+        parcel,
+        note(1, 1),
+        spent,
+        note(1, 5),
+    ]?;
     let mut dead = copy(alloc, &alive)?;
     dead.push(Update::Delete(id(0)))?;
     let mut cases = Vec::new(alloc);
@@ -211,6 +225,7 @@ fn entities(alloc: Global) -> Result<Vec<Row>, Memory> {
         Answer::Int(6),
     ))?;
     cases.push(case(copy(alloc, &alive)?, Query::All(LINE), ids(alloc, &[2])?))?;
+    cases.push(case(copy(alloc, &alive)?, Query::All(PARCEL), ids(alloc, &[3])?))?;
     let listed = tuples(vec![in alloc; of(0)]?);
     cases.push(case(alive, Query::Entries(SPENT), listed))?;
     cases.push(case(copy(alloc, &dead)?, Query::Get(NOTE, of(1)), Answer::Int(0)))?;
@@ -220,12 +235,13 @@ fn entities(alloc: Global) -> Result<Vec<Row>, Memory> {
         tuples(Vec::new(alloc)),
     ))?;
     cases.push(case(copy(alloc, &dead)?, Query::All(LINE), ids(alloc, &[])?))?;
+    cases.push(case(copy(alloc, &dead)?, Query::All(PARCEL), ids(alloc, &[])?))?;
     cases.push(case(
         copy(alloc, &dead)?,
-        Query::Alive(id(2)),
+        Query::Alive(id(3)),
         Answer::Truth(false),
     ))?;
-    cases.push(case(dead, Query::Alive(id(3)), Answer::Truth(false)))?;
+    cases.push(case(dead, Query::Alive(id(4)), Answer::Truth(false)))?;
     Ok(cases)
 }
 
