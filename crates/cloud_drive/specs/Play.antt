@@ -1,13 +1,19 @@
 -- One act of a run, and what the player has where the run is.
-use Rattle.std.specs.Prelude.{◌≡◌, ℕ, ◌+◌, if◌then◌else◌, Bool, List, [], ◌∷◌, ◌++◌, option_map, IfSome}
+use Rattle.std.specs.Prelude.{◌≡◌, refl, ℕ, ◌+◌, if◌then◌else◌, Bool, true, false, List, [], ◌∷◌, ◌++◌, Option, Some, None, option_map, IfSome, pos, codes}
+use Rattle.std.specs.Int.{int_wrap}
 use Rattle.cloud_base.specs.Answer.{answer}
+use Rattle.cloud_base.specs.Dead.{is_dead}
+use Rattle.cloud_base.specs.PlainCell.{plain_value, plain_int}
 use Rattle.cloud_base.specs.declared.schema.Schema.{Schema}
+use Rattle.cloud_base.specs.declared.update.Answer.TheVariants.{Int}
 use Rattle.cloud_base.specs.declared.update.Update.{Update}
 use Rattle.cloud_parse.specs.declared.tree.Act.{Act}
 use Rattle.cloud_parse.specs.declared.tree.Act.TheVariants.{Change, Print, Yield}
+use Rattle.cloud_parse.specs.declared.tree.Amount.{Amount}
+use Rattle.cloud_parse.specs.declared.tree.Operation.TheVariants.{Add}
 use Rattle.revision_diagram.specs.declared.step.Step.{Step}
-use Rattle.revision_diagram.specs.declared.step.Step.TheVariants.{Do, Ask, Say}
-use Rattle.one_client.specs.Program.{update_of, query_of}
+use Rattle.revision_diagram.specs.declared.step.Step.TheVariants.{Fork, Join, Do, Ask, Say, Mark}
+use Rattle.one_client.specs.Program.{global_property, update_of, query_of}
 use Rattle.one_client.specs.Steps.{Run, is_yield, yield_steps, after_yield, after_update}
 use Rattle.global_cells.specs.Cells.{CellsStand}
 use Rattle.cloud_drive.specs.declared.player.Player.{Player}
@@ -41,3 +47,35 @@ pub record Follows (player : Player) (run : Run) : Type 0 where
   pub server : CellsStand player.server [] pushed
   pub current : CellsStand player.current pushed since
   pub waiting : IfSome player.received (λ r. CellsStand r.globals pushed [])
+
+module _ where
+  abbrev counter : Schema
+  counter = record { properties = global_property (codes "g") ∷ []; entities = [] }
+
+  abbrev two : Amount
+  two = record { minus = false; number = 2 }
+
+  -- a run that added 2: revision 1 stands, the next number is 4, and what was received is given
+  abbrev here : Option ℕ → Run
+  here received = record { standing = 1; received = received; next = 4; log = update_of 0 Add two ∷ [] }
+
+  -- among no acts there is no yield, and among these four there are two
+  pub example_yields : (yields_in [] ≡ 0) × (yields_in (Yield ∷ Change 0 Add two ∷ Yield ∷ Print 0 ∷ []) ≡ 2)
+  example_yields = (refl, refl)
+
+  -- a change is one step, and is in the log afterwards
+  pub example_change : (act_steps counter (here None) (Change 0 Add two) false ≡ Do 1 (update_of 0 Add two) ∷ []) × (after_act (here None) (Change 0 Add two) false ≡ record { standing = 1; received = None; next = 4; log = update_of 0 Add two ∷ update_of 0 Add two ∷ [] })
+  example_change = (refl, refl)
+
+  -- a print is two steps, and leaves all as it is
+  pub example_print : (act_steps counter (here None) (Print 0) false ≡ Ask 1 (query_of 0) (Int (pos 2)) ∷ Say 1 (Int (pos 2)) ∷ []) × (after_act (here None) (Print 0) false ≡ here None)
+  unfolding answer is_dead plain_value plain_int int_wrap
+  example_print = (refl, refl)
+
+  -- a last yield with nothing received: a push, and revision 4 stands
+  pub example_last_yield : (act_steps counter (here None) Yield false ≡ Mark 1 false ∷ Fork 1 0 ∷ Join 0 1 ∷ []) × (after_act (here None) Yield false ≡ record { standing = 4; received = None; next = 5; log = update_of 0 Add two ∷ [] })
+  example_last_yield = (refl, refl)
+
+  -- a yield with revision 3 received, and a further yield to come: a pull, a push, and revision 5 is received
+  pub example_yield : (act_steps counter (here (Some 3)) Yield true ≡ Mark 1 false ∷ Join 3 1 ∷ Fork 3 0 ∷ Join 0 3 ∷ Fork 0 0 ∷ []) × (after_act (here (Some 3)) Yield true ≡ record { standing = 4; received = Some 5; next = 6; log = update_of 0 Add two ∷ [] })
+  example_yield = (refl, refl)

@@ -1,5 +1,5 @@
 -- The number and the line of a status.
-use Rattle.std.specs.Prelude.{ℕ, List, [], codes}
+use Rattle.std.specs.Prelude.{◌≡◌, refl, ℕ, List, [], ◌∷◌, codes}
 use Rattle.cloud_parse.specs.declared.fault.Which.TheVariants as which
 use Rattle.cloud_run.specs.declared.status.Status.{Status}
 use Rattle.cloud_run.specs.declared.status.Status.TheVariants as status
@@ -20,3 +20,15 @@ status_line status.WriteFault = codes "write fault"
 status_line (status.Limit which.Bytes) = codes "limit Bytes"
 status_line (status.Limit which.Form) = codes "limit Form"
 status_line status.Memory = codes "memory"
+
+-- a text that breaks a limit says which
+pub example_limit : (status_number (status.Limit which.Form) ≡ 6) × (status_line (status.Limit which.Form) ≡ codes "limit Form") × (status_line (status.Limit which.Bytes) ≡ codes "limit Bytes")
+example_limit = (refl, refl, refl)
+
+-- a command that did all says nothing
+pub example_done : (status_number status.Done ≡ 0) × (status_line status.Done ≡ [])
+example_done = (refl, refl)
+
+-- a fault of the source and one of the sink differ in number and line; the first line is given byte by byte
+pub example_faults : (status_number status.ReadFault ≡ 2) × (status_line status.ReadFault ≡ 114 ∷ 101 ∷ 97 ∷ 100 ∷ 32 ∷ 102 ∷ 97 ∷ 117 ∷ 108 ∷ 116 ∷ []) × (status_number status.WriteFault ≡ 3) × (status_line status.WriteFault ≡ codes "write fault")
+example_faults = (refl, refl, refl, refl)
