@@ -1,6 +1,6 @@
 -- What a read hands out and what a write takes, where the object tells it.
 use Rattle.std.specs.Prelude.{◌≡◌, refl, ◌∷◌, ℕ, ◌≤◌, ◌-◌, ◌+◌, ◌^◌, List, [], ◌++◌, ◌⊎◌, length, take, drop, min, Bool, false, if◌then◌else◌, ◌==◌, Option, Some, None, Result, Ok, Err}
-use Rattle.std.proofs.Common.{lit≤}
+use Rattle.std.proofs.Common.{ap, lit≤, le→leb}
 use Rattle.std.proofs.Math.Nat.{suc-ne-zero}
 use Rattle.cloud_base.specs.Causes.{Rose}
 
@@ -97,6 +97,10 @@ module _ where
 
   pub example_takes : Takes {E = ℕ} (Some (97 ∷ [])) (Some (97 ∷ 98 ∷ [])) (Ok 1) (98 ∷ 99 ∷ [])
   example_takes = refl
+
+  -- a refusal that is counted, a write of one byte, and a write of nothing that isn't counted
+  pub example_takes_cause : TakesCause {E = ℕ} 4 5 (Err 0) (98 ∷ []) × TakesCause {E = ℕ} 4 4 (Ok 1) (98 ∷ []) × ¬ TakesCause {E = ℕ} 4 4 (Ok 0) (98 ∷ [])
+  example_takes_cause = (lit≤ tt, (lit≤ tt, λ e some. absurd (suc-ne-zero 0 e), λ c. refl), λ h. le→leb 5 4 (h.1 refl (λ e. suc-ne-zero 0 (ap length e))))
 
   -- three bytes are left, a call hands out two at most, and the call after the next one fails
   abbrev three : Reading

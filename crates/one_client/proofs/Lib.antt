@@ -3,4 +3,3 @@ pub mod Laws
 pub mod Shape
 pub mod EachStep
 pub mod Runs
-pub mod Examples
