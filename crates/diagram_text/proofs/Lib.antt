@@ -1,1 +1,5 @@
 mod Examples
+pub mod TellValues
+pub mod TellAnswers
+pub mod TellCells
+pub mod TellLines

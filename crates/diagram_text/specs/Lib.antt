@@ -1,3 +1,4 @@
 pub mod Cells
 pub mod Text
 pub mod Values
+pub mod Legible

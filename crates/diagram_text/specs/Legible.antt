@@ -1,0 +1,55 @@
+-- When the text of a report tells its steps: names are told apart, and each step is of the schema's shape.
+use Rattle.std.specs.Prelude.{◌≡◌, ℕ, ◌<◌, ◌^◌, ⊤, List, [], length, All, FitsSigned}
+use Rattle.std.specs.Int.{w64}
+use Rattle.cloud_base.specs.Values.{IsName, IsText}
+use Rattle.cloud_base.specs.Shaped.{IsId, IsShaped, IsShapedQuery, IsShapedAnswer}
+use Rattle.cloud_base.specs.declared.batch.End.{End}
+use Rattle.cloud_base.specs.declared.schema.KeyType.{KeyType}
+use Rattle.cloud_base.specs.declared.schema.Owner.{Owner}
+use Rattle.cloud_base.specs.declared.schema.Property.{Property}
+use Rattle.cloud_base.specs.declared.schema.Schema.{Schema}
+use Rattle.cloud_base.specs.declared.update.Answer.{Answer}
+use Rattle.revision_diagram.specs.declared.step.Step.{Step}
+use Rattle.diagram_text.specs.Cells.{entity_name, property_text}
+use Rattle.diagram_text.specs.Text.{client_name}
+
+-- a global has no keys, an array has a name, and an entity's property is one of an entity that is there
+abbrev pub IsOwner : Schema → Owner → List KeyType → Type 0
+IsOwner schema Owner.Global keys = keys ≡ []
+IsOwner schema (Owner.Array array) keys = IsName array
+IsOwner schema (Owner.Entity entity) keys = entity < length schema.entities
+
+abbrev pub IsProperty : Schema → Property → Type 0
+IsProperty schema property = IsName property.name × IsOwner schema property.owner property.keys
+
+-- what is named has a name, and different numbers have different names
+pub record Legible (schema : Schema) (names : List (List ℕ)) : Type 0 where
+  pub properties : All (IsProperty schema) schema.properties
+  pub entities : All (λ entity. IsName entity.name) schema.entities
+  pub clients : All IsName names
+  pub properties_differ : (a b : ℕ) → a < length schema.properties → b < length schema.properties → property_text schema a ≡ property_text schema b → a ≡ b
+  pub entities_differ : (a b : ℕ) → a < length schema.entities → b < length schema.entities → entity_name schema a ≡ entity_name schema b → a ≡ b
+  pub clients_differ : (a b : ℕ) → a < length names → b < length names → client_name names a ≡ client_name names b → a ≡ b
+
+-- a value that may be printed: any but a list
+abbrev pub IsSaid : Answer → Type 0
+IsSaid (Answer.Int number) = FitsSigned w64 number
+IsSaid (Answer.Text text) = IsText text
+IsSaid (Answer.Truth truth) = ⊤
+IsSaid (Answer.Id id) = IsId id
+IsSaid (Answer.Ids ids) = ⊥
+IsSaid (Answer.Tuples tuples) = ⊥
+
+-- a step of the schema's shape, whose revisions are numbers of 32 bits
+abbrev pub IsStep : Schema → List (List ℕ) → Step → Type 0
+IsStep schema names (Step.Fork revision client) = (revision < 2 ^ 32) × (client < length names)
+IsStep schema names (Step.Join revision joined) = (revision < 2 ^ 32) × (joined < 2 ^ 32)
+IsStep schema names (Step.Do revision update) = (revision < 2 ^ 32) × IsShaped schema update
+IsStep schema names (Step.Ask revision query answer) = (revision < 2 ^ 32) × IsShapedQuery schema query × IsShapedAnswer schema query answer
+IsStep schema names (Step.Say revision answer) = (revision < 2 ^ 32) × IsSaid answer
+IsStep schema names (Step.Mark revision flush) = revision < 2 ^ 32
+
+abbrev pub IsEnd : End → Type 0
+IsEnd End.Done = ⊤
+IsEnd End.Spent = ⊤
+IsEnd (End.Trap line) = line < 2 ^ 32
