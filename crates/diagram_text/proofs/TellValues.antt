@@ -1,6 +1,6 @@
 -- The texts of values tell the values, and where they end.
-use Rattle.std.proofs.Common.{◌≡◌, ◌≢◌, codes, ℕ, ◌<◌, ◌^◌, ⊤, true, false, List, [], ◌∷◌, ◌++◌, ℤ, FitsSigned}
-use Rattle.std.specs.Prelude.{IsTrue, All, decimal}
+use Rattle.std.proofs.Common.{◌≡◌, ◌≢◌, codes, ℕ, ◌<◌, ◌^◌, true, false, List, [], ◌∷◌, ◌++◌, ℤ, FitsSigned}
+use Rattle.std.specs.Prelude.{⊤, IsTrue, All, decimal}
 use Rattle.std.specs.Fmt.{signed_decimal}
 use Rattle.std.specs.Int.{w64}
 use Rattle.std.specs.List.{join_by}
