@@ -64,7 +64,7 @@ word_begins (x ∷ word) r s b some h stops e =
 decimal_begins : (n : ℕ) (r s : List ℕ) (b : ℕ) → n < 2 ^ 64 → is_name_byte b ≡ false → decimal n ++ r ≢ b ∷ s
 decimal_begins n r s b h = word_begins (decimal n) r s b (decimal_is_IsNumeral n h).0.0 (decimal_is_word n h)
 
-integer_begins : (z : ℤ) (r s : List ℕ) (b : ℕ) → FitsSigned w64 z → is_name_byte b ≡ false → b ≢ 45 → signed_decimal z ++ r ≢ b ∷ s
+pub integer_begins : (z : ℤ) (r s : List ℕ) (b : ℕ) → FitsSigned w64 z → is_name_byte b ≡ false → b ≢ 45 → signed_decimal z ++ r ≢ b ∷ s
 integer_begins (pos n) r s b fits stops other e = decimal_begins n r s b (omega arith) stops e
 integer_begins (negsuc n) r s b fits stops other e = other (cc e)
 
