@@ -1,5 +1,6 @@
 mod Examples
 pub mod TellValues
 pub mod TellAnswers
+pub mod TellChanges
 pub mod TellCells
 pub mod TellLines
