@@ -1,5 +1,7 @@
 mod Examples
 pub mod TellValues
 pub mod TellAnswers
+pub mod TellChanges
+pub mod TellPlaces
 pub mod TellCells
 pub mod TellLines
