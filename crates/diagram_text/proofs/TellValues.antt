@@ -79,7 +79,7 @@ integers_tell (negsuc m) (negsuc n) r s p q h k e =
     let same : m ≡ n = omega (arith, both.0) in
     (ap negsuc same, both.1)
 
-firsts_apart : (x y : ℕ) (xs ys : List ℕ) → x ≢ y → x ∷ xs ≢ y ∷ ys
+pub firsts_apart : (x y : ℕ) (xs ys : List ℕ) → x ≢ y → x ∷ xs ≢ y ∷ ys
 firsts_apart x y xs ys h e = h (cc e)
 
 abbrev is_special : ℕ → Bool
