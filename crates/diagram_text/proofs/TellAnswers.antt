@@ -1,6 +1,6 @@
 -- The texts of answers tell the answers, by their queries.
 use Rattle.std.proofs.Common.{◌≡◌, ◌≢◌, ◌∙◌, refl, sym, ap, subst, arith, ℕ, ◌<◌, ◌^◌, suc, Bool, true, false, List, [], ◌∷◌, ◌++◌, length, drop, codes, ℤ, pos, negsuc, FitsSigned}
-use Rattle.std.specs.Prelude.{All, decimal, ◌==◌}
+use Rattle.std.specs.Prelude.{All, Option, Some, None, MatchOption, decimal, ◌==◌}
 use Rattle.std.proofs.lemmas.Bool.{false≢true}
 use Rattle.std.specs.Fmt.{signed_decimal}
 use Rattle.std.specs.Int.{w64}
@@ -10,10 +10,11 @@ use Rattle.std.proofs.lemmas.Fmt.{decimal_is_IsNumeral}
 use Rattle.std.proofs.lemmas.List.{append_assoc}
 use Rattle.std.proofs.lemmas.Str.Parse.{digit_from_value}
 use Rattle.cloud_base.specs.Values.{Id}
-use Rattle.cloud_base.specs.Shaped.{IsId, IsValue, IsCell, IsShapedAnswer, cell_type}
+use Rattle.cloud_base.specs.Shaped.{IsId, IsValue, IsCell, AreKeys, IsShapedAnswer, cell_type, property_at}
 use Rattle.cloud_base.specs.declared.key.Key.{Key}
 use Rattle.cloud_base.specs.declared.schema.CellType.{CellType}
 use Rattle.cloud_base.specs.declared.schema.CellType.TheVariants as cell
+use Rattle.cloud_base.specs.declared.schema.Property.{Property}
 use Rattle.cloud_base.specs.declared.schema.Schema.{Schema}
 use Rattle.cloud_base.specs.declared.update.Answer.{Answer}
 use Rattle.cloud_base.specs.declared.update.Answer.TheVariants.{Int, Text, Truth, Id as IdAnswer, Ids, Tuples}
@@ -21,6 +22,7 @@ use Rattle.cloud_base.specs.declared.update.Query.{Query}
 use Rattle.cloud_base.specs.declared.update.Query.TheVariants.{Get, All as AllOf, Entries, Alive}
 use Rattle.diagram_text.specs.Values.{id_text, tuple_text, truth_text, answer_text}
 use Rattle.diagram_text.specs.Legible.{IsSaid}
+use Rattle.diagram_text.proofs.TellPlaces.{keys_written}
 use Rattle.diagram_text.proofs.TellValues.{Stops, IsWritten, firsts_apart, integer_begins, integers_tell, quoted_tell, ids_tell, joined_tell, tuples_tell}
 
 digits_begin : (digits r s : List ℕ) (b : ℕ) → 0 < length digits → AllDigits 10 digits → 57 < b → digits ++ r ≢ b ∷ s
@@ -34,8 +36,8 @@ integer_is_no_word (negsuc n) r s b fits late e = let first : 45 ≡ b = cc e in
 
 -- the first byte of a truth value is another one
 truth_begins : (t : Bool) (r s : List ℕ) (b : ℕ) → (116 == b) ≡ false → (102 == b) ≡ false → truth_text t ++ r ≢ b ∷ s
-truth_begins true r s b first second e = false≢true (sym first ∙ subst (λ c. (116 == c) ≡ true) (cc e) refl)
-truth_begins false r s b first second e = false≢true (sym second ∙ subst (λ c. (102 == c) ≡ true) (cc e) refl)
+truth_begins true r s b first second e = let is : 116 ≡ b = cc e in false≢true (sym first ∙ subst (λ c. (116 == c) ≡ true) is refl)
+truth_begins false r s b first second e = let is : 102 ≡ b = cc e in false≢true (sym second ∙ subst (λ c. (102 == c) ≡ true) is refl)
 
 truths_tell : (a b : Bool) (r s : List ℕ) → truth_text a ++ r ≡ truth_text b ++ s → (a ≡ b) × (r ≡ s)
 truths_tell true true r s e = (refl, ap (drop 4) e)
@@ -106,8 +108,12 @@ ids_of_all schema entity (IdAnswer i) h = absurd h
 ids_of_all schema entity (Ids ids) h = (ids, refl, h)
 ids_of_all schema entity (Tuples tuples) h = absurd h
 
+found_written : (found : Option Property) (keys : List Key) → MatchOption found ⊥ (λ p. AreKeys p.keys keys) → All IsWritten keys
+found_written None keys h = absurd h
+found_written (Some p) keys h = keys_written p.keys keys h.1
+
 cell_written : (schema : Schema) (property : ℕ) (keys : List Key) → IsCell schema property keys → All IsWritten keys
-cell_written schema property keys h = ?
+cell_written schema property keys h = found_written (property_at schema property) keys h.1
 
 tuples_of_entries : (schema : Schema) (property : ℕ) (a : Answer) → IsShapedAnswer schema (Entries property) a → (tuples : List (List Key)) × (a ≡ Tuples tuples) × All (All IsWritten) tuples
 tuples_of_entries schema property (Int n) h = absurd h

@@ -64,6 +64,7 @@ word_begins (x ∷ word) r s b some h stops e =
 decimal_begins : (n : ℕ) (r s : List ℕ) (b : ℕ) → n < 2 ^ 64 → is_name_byte b ≡ false → decimal n ++ r ≢ b ∷ s
 decimal_begins n r s b h = word_begins (decimal n) r s b (decimal_is_IsNumeral n h).0.0 (decimal_is_word n h)
 
+-- and an integer, or with a minus
 pub integer_begins : (z : ℤ) (r s : List ℕ) (b : ℕ) → FitsSigned w64 z → is_name_byte b ≡ false → b ≢ 45 → signed_decimal z ++ r ≢ b ∷ s
 integer_begins (pos n) r s b fits stops other e = decimal_begins n r s b (omega arith) stops e
 integer_begins (negsuc n) r s b fits stops other e = other (cc e)
@@ -82,18 +83,21 @@ integers_tell (negsuc m) (negsuc n) r s p q h k e =
 pub firsts_apart : (x y : ℕ) (xs ys : List ℕ) → x ≢ y → x ∷ xs ≢ y ∷ ys
 firsts_apart x y xs ys h e = h (cc e)
 
+-- a byte that a backslash stands before
 abbrev is_special : ℕ → Bool
 is_special byte = (byte == 34) || (byte == 92)
 
 abbrev escaped_by : Bool → ℕ → List ℕ
 escaped_by special byte = cond special (92 ∷ byte ∷ []) (byte ∷ [])
 
+-- one byte of a text, by whether a backslash stands before it
 bytes_by : (x y : ℕ) (r s : List ℕ) (t u : Bool) → is_special x ≡ t → is_special y ≡ u → escaped_by t x ++ r ≡ escaped_by u y ++ s → (x ≡ y) × (r ≡ s)
 bytes_by x y r s true true h k e = (cc e, ap (drop 2) e)
 bytes_by x y r s true false h k e = let is : y ≡ 92 = cc e in absurd (false≢true (sym k ∙ ap is_special is))
 bytes_by x y r s false true h k e = let is : x ≡ 92 = cc e in absurd (false≢true (sym h ∙ ap is_special is))
 bytes_by x y r s false false h k e = (cc e, ap (drop 1) e)
 
+-- no byte of a text begins as the quote that ends it does
 begins_by : (x : ℕ) (r s : List ℕ) (t : Bool) → is_special x ≡ t → escaped_by t x ++ r ≢ 34 ∷ s
 begins_by x r s true h e = firsts_apart 92 34 (x ∷ r) s (λ e. omega arith) e
 begins_by x r s false h e = let is : x ≡ 34 = cc e in false≢true (sym h ∙ ap is_special is)
@@ -120,6 +124,7 @@ ids_tell a b r s p q h k e =
     let serials = decimals_tell a.serial b.serial r s (omega arith) (omega arith) h k (ap (drop 1) clients.1) in
     ((λ i. record { client = clients.0 i; serial = serials.0 i }), serials.1)
 
+-- no key begins with a byte that stops a word, but for a minus, a quote and an at sign
 key_begins : (a : Key) (r s : List ℕ) (b : ℕ) → IsWritten a → is_name_byte b ≡ false → b ≢ 45 → b ≢ 34 → b ≢ 64 → key_text a ++ r ≢ b ∷ s
 key_begins (key.Int number) r s b h stops minus quote at e = integer_begins number r s b h stops minus e
 key_begins (key.Text text) r s b h stops minus quote at e = quote (cc e)
@@ -139,6 +144,7 @@ keys_tell (key.Ref a) (key.Ref b) r s p q h k e = let both = ids_tell a b r s p 
 module _ {X : Type 0} (text : X → List ℕ) (Fits : X → Type 0) (close : ℕ)
     (tells : (a b : X) (r s : List ℕ) → Fits a → Fits b → Stops r → Stops s → text a ++ r ≡ text b ++ s → (a ≡ b) × (r ≡ s))
     (stops : is_name_byte close ≡ false) (other : close ≢ 44) where
+  -- what is behind the first item
   abbrev behind : List X → List ℕ
   behind = flat_map (λ y. codes ", " ++ text y)
 
