@@ -11,7 +11,7 @@ use Rattle.cloud_base.specs.declared.schema.Schema.{Schema}
 use Rattle.cloud_base.specs.declared.update.Answer.{Answer}
 use Rattle.revision_diagram.specs.declared.step.Step.{Step}
 use Rattle.diagram_text.specs.Cells.{entity_name, property_text}
-use Rattle.diagram_text.specs.Text.{client_name}
+use Rattle.diagram_text.specs.Text.{client_name, report_text}
 
 -- a global has no keys, an array has a name, and an entity's property is one of an entity that is there
 abbrev pub IsOwner : Schema → Owner → List KeyType → Type 0
@@ -53,3 +53,8 @@ abbrev pub IsEnd : End → Type 0
 IsEnd End.Done = ⊤
 IsEnd End.Spent = ⊤
 IsEnd (End.Trap line) = line < 2 ^ 32
+
+-- no other steps and ends have this text
+abbrev pub Tells : Schema → List (List ℕ) → List Step → List End → Type 0
+Tells schema names steps ends =
+    (other : List Step) (later : List End) → All (IsStep schema names) other → All IsEnd later → report_text schema names other later ≡ report_text schema names steps ends → (other ≡ steps) × (later ≡ ends)

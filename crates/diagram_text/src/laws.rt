@@ -1,12 +1,11 @@
 // What follows from the definitions alone.
-ghost use Rattle.std.specs.Prelude.{◌≡◌, ℕ, List, All};
-ghost use Rattle.diagram_text.specs.Text.{report_text};
-ghost use Rattle.diagram_text.specs.Legible.{Legible, IsStep, IsEnd};
+ghost use Rattle.std.specs.Prelude.{ℕ, List, All};
+ghost use Rattle.diagram_text.specs.Legible.{Legible, IsStep, IsEnd, Tells};
 ghost use Rattle.cloud_base.specs.declared.batch.End.{End};
 ghost use Rattle.cloud_base.specs.declared.schema.Schema.{Schema};
 ghost use Rattle.revision_diagram.specs.declared.step.Step.{Step};
 
 /// A report's text tells its steps and its ends, where names are told apart.
 pub fn reports_tell_steps()
-    ensures { (schema : Schema) (names : List (List ℕ)) (steps other : List Step) (ends later : List End) → Legible schema names → All (IsStep schema names) steps → All (IsStep schema names) other → All IsEnd ends → All IsEnd later → report_text schema names steps ends ≡ report_text schema names other later → (steps ≡ other) × (ends ≡ later) }
+    ensures { (schema : Schema) (names : List (List ℕ)) (steps : List Step) (ends : List End) → Legible schema names → All (IsStep schema names) steps → All IsEnd ends → Tells schema names steps ends }
 {}

@@ -3,3 +3,4 @@ pub mod Laws
 pub mod Shape
 pub mod EachStep
 pub mod Runs
+pub mod Legible

@@ -1,11 +1,15 @@
 // What a program of one client means: its steps, its report, and that they are a lawful diagram.
 #![tactic(auto)]
 
-ghost use Rattle.cloud_parse.specs.Form.{Form};
+ghost use Rattle.std.specs.Prelude.{[], ◌∷◌};
+ghost use Rattle.cloud_parse.specs.Form.{Form, IsForm};
+ghost use Rattle.diagram_text.specs.Legible.{Tells};
 ghost use Rattle.one_client.specs.Headline.{Headline};
 ghost use Rattle.one_client.specs.Program.{schema_of, trace, end_of};
 ghost use Rattle.one_client.specs.Steps.{steps_of};
 
+use cloud_base::plain_steps;
+use diagram_text::reports_tell_steps;
 use revision_diagram::{
     ask_draws, do_draws, fork_draws, join_draws, lawful_step, line_step, mark_draws, meeting_step,
     once_step, revisions_are_there, right_step, say_draws, step_draws, story_step,
@@ -29,4 +33,12 @@ pub fn runs_are_lawful()
     story_step();
     line_step();
     meeting_step();
+}
+
+/// The text of a run's report tells the steps and the end of the run.
+pub fn reports_tell_runs()
+    ensures { (f : Form) → IsForm f → Tells (schema_of f) (f.client ∷ []) (steps_of f) (end_of f ∷ []) }
+{
+    plain_steps();
+    reports_tell_steps();
 }
