@@ -10,6 +10,7 @@ use Rattle.diagram_text.specs.Cells.{change_text, update_text, query_text}
 use Rattle.diagram_text.specs.Legible.{Legible}
 use Rattle.diagram_text.proofs.TellChanges as changes
 use Rattle.diagram_text.proofs.TellPlaces.{keyed_tell}
+use Rattle.diagram_text.proofs.TellNamed.{created_tell}
 
 pub changes_tell : (type other : CellType) (a b : CellChange) (r s : List ℕ) → IsChange type a → IsChange other b → change_text a ++ r ≡ change_text b ++ s → (a ≡ b) × (r ≡ s)
 changes_tell = changes.changes_tell
