@@ -1,20 +1,17 @@
 -- The texts of properties' cells, by the names of their owners, tell names and keys.
-use Rattle.std.proofs.Common.{◌≡◌, ℕ, false, List, [], ◌∷◌, ◌++◌, get_or, drop, codes, Option, Some, None, refl, sym, ap, ◌∙◌, append_assoc}
-use Rattle.std.specs.Prelude.{All, IsTrue, nat_eq}
-use Rattle.cloud_base.specs.Values.{is_name_byte, all_name_bytes, IsName}
+use Rattle.std.proofs.Common.{◌≡◌, ℕ, false, List, [], ◌∷◌, ◌++◌, drop, codes, Option, Some, None, refl, sym, ap, ◌∙◌, append_assoc}
+use Rattle.std.specs.Prelude.{All, nat_eq}
+use Rattle.cloud_base.specs.Values.{is_name_byte, IsName}
 use Rattle.cloud_base.specs.declared.key.Key.{Key}
 use Rattle.diagram_text.specs.Values.{keys_text}
 use Rattle.diagram_text.specs.Cells.{keyed_text, created_text}
-use Rattle.diagram_text.proofs.TellValues.{IsWritten, words_tell, key_lists_tell}
+use Rattle.diagram_text.proofs.TellValues.{IsWritten, words_tell}
 use Rattle.diagram_text.proofs.TellChanges.{differ, word_first}
-use Rattle.diagram_text.proofs.TellPlaces.{name_is_word, name_some, keyed_tell, IsNamed, IsKeyed, named_cell, named_property}
+use Rattle.diagram_text.proofs.TellPlaces.{name_is_word, name_some, bracket, keyed_tell, IsNamed, IsKeyed, named_cell, named_property}
 
 -- a name, and a byte that stops it
 pub names_tell : (a b : List ℕ) (c d : ℕ) (r s : List ℕ) → IsName a → IsName b → is_name_byte c ≡ false → is_name_byte d ≡ false → a ++ c ∷ r ≡ b ++ d ∷ s → (a ≡ b) × (c ∷ r ≡ d ∷ s)
 names_tell a b c d r s is also stops too h = words_tell a b (c ∷ r) (d ∷ s) (name_is_word a is) (name_is_word b also) stops too h
-
-bracket : (name : List ℕ) (keys : List Key) (r : List ℕ) → keyed_text name keys ++ r ≡ name ++ 91 ∷ (keys_text keys ++ (93 ∷ r))
-bracket name keys r = simp append_assoc
 
 cell_behind : (owner : List ℕ) (keys : List Key) (name r : List ℕ) → named_cell (Some owner) keys name ++ r ≡ keyed_text owner keys ++ 46 ∷ (name ++ r)
 cell_behind owner keys name r = simp append_assoc

@@ -1,10 +1,10 @@
 -- The texts of cells tell their properties and keys.
-use Rattle.std.proofs.Common.{◌≡◌, ℕ, zero, suc, ◌<◌, true, false, List, [], ◌∷◌, ◌++◌, length, get_or, drop, codes, Option, Some, None, inl, inr, refl, sym, ap, subst, ◌∙◌, arith, append_assoc}
-use Rattle.std.specs.Prelude.{◌≢◌, ⊤, All, IsTrue, nat_eq, slice_get, MatchOption}
-use Rattle.std.proofs.lemmas.Bool.{and_parts, and_from, or_left, eq-eqb, false≢true}
+use Rattle.std.proofs.Common.{◌≡◌, ℕ, ◌<◌, true, false, List, [], ◌∷◌, ◌++◌, length, drop, codes, Option, Some, None, inl, inr, refl, sym, ap, subst, ◌∙◌, arith, append_assoc}
+use Rattle.std.specs.Prelude.{◌≢◌, ⊤, All, IsTrue, slice_get}
+use Rattle.std.proofs.lemmas.Bool.{and_parts, and_from, or_left, false≢true}
 use Rattle.std.proofs.lemmas.Option.{slice_get_within, slice_get_cases, get_or_from_slice_get, MatchOption-at_some, MatchOption-at_none}
 use Rattle.std.proofs.lemmas.List.Elements.{All-nil, All-cons, All-get_or}
-use Rattle.cloud_base.specs.Values.{is_letter, is_digit, is_name_byte, all_name_bytes, is_name, IsName}
+use Rattle.cloud_base.specs.Values.{is_letter, is_digit, is_name_byte, all_name_bytes, IsName}
 use Rattle.cloud_base.specs.Shaped.{IsKey, MatchTypes, AreKeys, IsCell}
 use Rattle.cloud_base.specs.declared.key.Key.{Key}
 use Rattle.cloud_base.specs.declared.schema.Entity.{Entity}
@@ -15,7 +15,7 @@ use Rattle.cloud_base.specs.declared.schema.Schema.{Schema}
 use Rattle.diagram_text.specs.Values.{keys_text}
 use Rattle.diagram_text.specs.Cells.{name_of, entity_name, keyed_text, cell_owner_text, cell_of, cell_text, property_owner_text, property_of, property_text}
 use Rattle.diagram_text.specs.Legible.{Legible, IsOwner, IsProperty}
-use Rattle.diagram_text.proofs.TellValues.{Stops, IsWritten, words_tell, key_lists_tell}
+use Rattle.diagram_text.proofs.TellValues.{IsWritten, words_tell, key_lists_tell}
 
 pub name_is_word : (name : List ℕ) → IsName name → IsTrue (all_name_bytes name)
 name_is_word [] is = refl
@@ -50,11 +50,12 @@ no_keys [] (key ∷ keys) none match = absurd match
 no_keys (type ∷ types) keys none match = absurd (cc none)
 
 -- keys in brackets behind a name
+pub bracket : (name : List ℕ) (keys : List Key) (r : List ℕ) → keyed_text name keys ++ r ≡ name ++ 91 ∷ (keys_text keys ++ (93 ∷ r))
+bracket name keys r = simp append_assoc
+
 pub keyed_tell : (a b : List ℕ) (k l : List Key) (r s : List ℕ) → IsName a → IsName b → All IsWritten k → All IsWritten l → keyed_text a k ++ r ≡ keyed_text b l ++ s → (a ≡ b) × (k ≡ l) × (r ≡ s)
 keyed_tell a b k l r s is also written other h =
-    let shape : (n : List ℕ) (m : List Key) (t : List ℕ) → keyed_text n m ++ t ≡ n ++ 91 ∷ (keys_text m ++ (93 ∷ t)) =
-        λ n m t. simp append_assoc in
-    let words = words_tell a b (91 ∷ (keys_text k ++ (93 ∷ r))) (91 ∷ (keys_text l ++ (93 ∷ s))) (name_is_word a is) (name_is_word b also) refl refl (sym (shape a k r) ∙ h ∙ shape b l s) in
+    let words = words_tell a b (91 ∷ (keys_text k ++ (93 ∷ r))) (91 ∷ (keys_text l ++ (93 ∷ s))) (name_is_word a is) (name_is_word b also) refl refl (sym (bracket a k r) ∙ h ∙ bracket b l s) in
     let keys = key_lists_tell k l r s written other (ap (drop 1) words.1) in
     (words.0, keys.0, keys.1)
 
@@ -124,10 +125,9 @@ pub record Place (schema : Schema) (number : ℕ) : Type 0 where
 place_at : (schema : Schema) (names : List (List ℕ)) (number : ℕ) (property : Property) → Legible schema names → slice_get schema.properties number ≡ Some property → Place schema number
 place_at schema names number property legible at =
     let within = slice_get_within schema.properties number property at in
-    let is : IsProperty schema property =
-        subst (IsProperty schema) (get_or_from_slice_get schema.properties number property property at) (All-get_or (IsProperty schema) schema.properties number property within legible.properties) in
-    let keys_are : (keys : List Key) → IsCell schema number keys → AreKeys property.keys keys =
-        λ keys shaped. MatchOption-at_some ⊥ (λ (p : Property). AreKeys p.keys keys) property at shaped.1 in
+    let all = All-get_or (IsProperty schema) schema.properties number property within legible.properties in
+    let is : IsProperty schema property = subst (IsProperty schema) (get_or_from_slice_get schema.properties number property property at) all in
+    let keys_are : (keys : List Key) → IsCell schema number keys → AreKeys property.keys keys = λ keys shaped. MatchOption-at_some ⊥ (λ (p : Property). AreKeys p.keys keys) property at shaped.1 in
     record {
       owner = owner_name schema property.owner;
       name = property.name;
