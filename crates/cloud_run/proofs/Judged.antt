@@ -2,7 +2,7 @@
 use Rattle.std.proofs.Common.{◌≡◌, ℕ, ◌<◌, ◌≤◌, List, [], ◌++◌, length, refl, sym, ap, ◌∙◌, append-nil, length-append, subst, arith, inr}
 use Rattle.std.specs.Prelude.{Option, Some, None, Err, ◌⊎◌}
 use Rattle.cloud_base.specs.Causes.{Rose}
-use Rattle.cloud_parse.specs.Form.{Form, HasForm}
+use Rattle.cloud_parse.specs.Form.{Form, IsForm, HasForm}
 use Rattle.cloud_parse.specs.Parse.{most_text, ParseAnswers}
 use Rattle.cloud_parse.specs.declared.fault.ParseFault.TheVariants as fault
 use Rattle.cloud_parse.specs.declared.fault.Which.{Which}
@@ -21,6 +21,10 @@ pub left_form : (left after : Option (List ℕ)) (taken : List ℕ) (f : Form) �
 left_form None after taken f p e has = has.form
 left_form (Some bytes) None taken f p e has = absurd p
 left_form (Some bytes) (Some rest) taken f p e has = subst (λ text. HasForm text f) (whole bytes taken rest p e) has
+
+pub is_form : (left : Option (List ℕ)) (f : Form) → LeftForm left f → IsForm f
+is_form None f h = h
+is_form (Some text) f h = h.form
 
 pub left_done : (left after : Option (List ℕ)) (taken : List ℕ) (f : Form) → Parts left after taken → AtEnd after → length taken ≤ most_text → HasForm taken f → JudgesLeft status.Done left
 left_done None after taken f p e few has = tt

@@ -10,7 +10,7 @@ use crate::words::Words;
 use cloud_base::{Sink, Source};
 use cloud_drive::play;
 use cloud_parse::{ParseFault, Tree, parse};
-use one_client::runs_are_lawful;
+use one_client::{reports_tell_runs, runs_are_lawful};
 use std::alloc::Global;
 use std::sync::Wait;
 use std::thread::Threads;
@@ -45,7 +45,7 @@ fn read_tree<S: Source>(alloc: Global, source: &mut S) -> Result<Tree, Status>
 
 /// Runs the command that the words are, for every command that doesn't wait. `play` reads the source to
 /// its end, and writes the report of its run.
-#[tactic(auto, using(crate::proofs::Judged::judges_fault, crate::proofs::Judged::writes_nothing, crate::proofs::Judged::not_done, crate::proofs::Judged::not_words, crate::proofs::Judged::not_write_fault, crate::proofs::Judged::refused_accepted))]
+#[tactic(auto, using(crate::proofs::Judged::judges_fault, crate::proofs::Judged::writes_nothing, crate::proofs::Judged::not_done, crate::proofs::Judged::not_words, crate::proofs::Judged::not_write_fault, crate::proofs::Judged::refused_accepted, crate::proofs::Judged::is_form))]
 pub fn top_plain<S: Source, K: Sink>(
     alloc: Global,
     words: &Words,
@@ -77,6 +77,7 @@ pub fn top_plain<S: Source, K: Sink>(
         return Status::Memory;
     };
     runs_are_lawful();
+    reports_tell_runs();
     if write_all(&mut *sink, report.as_slice()) {
         Status::Done
     } else {
