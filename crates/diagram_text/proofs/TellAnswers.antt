@@ -1,5 +1,5 @@
 -- The texts of answers tell the answers, by their queries.
-use Rattle.std.proofs.Common.{◌≡◌, ◌≢◌, ◌∙◌, refl, sym, ap, subst, arith, ℕ, ◌<◌, ◌^◌, suc, Bool, true, false, List, [], ◌∷◌, ◌++◌, length, drop, codes, ℤ, pos, negsuc, FitsSigned}
+use Rattle.std.proofs.Common.{◌≡◌, ◌≢◌, ◌∙◌, refl, sym, ap, subst, arith, ℕ, ◌<◌, Bool, true, false, List, [], ◌∷◌, ◌++◌, length, drop, codes, ℤ, pos, negsuc, FitsSigned}
 use Rattle.std.specs.Prelude.{All, Option, Some, None, MatchOption, decimal, ◌==◌}
 use Rattle.std.proofs.lemmas.Bool.{false≢true}
 use Rattle.std.specs.Fmt.{signed_decimal}
@@ -23,7 +23,7 @@ use Rattle.cloud_base.specs.declared.update.Query.TheVariants.{Get, All as AllOf
 use Rattle.diagram_text.specs.Values.{id_text, tuple_text, truth_text, answer_text}
 use Rattle.diagram_text.specs.Legible.{IsSaid}
 use Rattle.diagram_text.proofs.TellPlaces.{keys_written}
-use Rattle.diagram_text.proofs.TellValues.{Stops, IsWritten, firsts_apart, integer_begins, integers_tell, quoted_tell, ids_tell, joined_tell, tuples_tell}
+use Rattle.diagram_text.proofs.TellValues.{Stops, IsWritten, differ, integer_begins, integers_tell, quoted_tell, ids_tell, joined_tell, tuples_tell}
 
 digits_begin : (digits r s : List ℕ) (b : ℕ) → 0 < length digits → AllDigits 10 digits → 57 < b → digits ++ r ≢ b ∷ s
 digits_begin [] r s b some h late e = omega arith
@@ -42,8 +42,8 @@ truth_begins false r s b first second e = let is : 102 ≡ b = cc e in false≢t
 truths_tell : (a b : Bool) (r s : List ℕ) → truth_text a ++ r ≡ truth_text b ++ s → (a ≡ b) × (r ≡ s)
 truths_tell true true r s e = (refl, ap (drop 4) e)
 truths_tell false false r s e = (refl, ap (drop 5) e)
-truths_tell true false r s e = absurd (firsts_apart 116 102 _ _ (λ e. omega arith) e)
-truths_tell false true r s e = absurd (firsts_apart 102 116 _ _ (λ e. omega arith) e)
+truths_tell true false r s e = absurd (differ 0 _ _ e refl)
+truths_tell false true r s e = absurd (differ 0 _ _ e refl)
 
 -- an integer and a truth value differ in their first byte
 integer_is_no_truth : (z : ℤ) (t : Bool) (r s : List ℕ) → FitsSigned w64 z → signed_decimal z ++ r ≢ truth_text t ++ s
@@ -60,7 +60,7 @@ said_tell (Int n) (Tuples tuples) r s fa fb h k e = absurd fb
 said_tell (Text t) (Int m) r s fa fb h k e = absurd (integer_begins m s _ 34 fb refl (λ e. omega arith) (sym e))
 said_tell (Text t) (Text v) r s fa fb h k e = let both = quoted_tell t v r s e in (ap Text both.0, both.1)
 said_tell (Text t) (Truth v) r s fa fb h k e = absurd (truth_begins v s _ 34 refl refl (sym e))
-said_tell (Text t) (IdAnswer j) r s fa fb h k e = absurd (firsts_apart 34 64 _ _ (λ e. omega arith) e)
+said_tell (Text t) (IdAnswer j) r s fa fb h k e = absurd (differ 0 _ _ e refl)
 said_tell (Text t) (Ids ids) r s fa fb h k e = absurd fb
 said_tell (Text t) (Tuples tuples) r s fa fb h k e = absurd fb
 said_tell (Truth t) (Int m) r s fa fb h k e = absurd (integer_is_no_truth m t s r fb (sym e))
@@ -70,7 +70,7 @@ said_tell (Truth t) (IdAnswer j) r s fa fb h k e = absurd (truth_begins t r _ 64
 said_tell (Truth t) (Ids ids) r s fa fb h k e = absurd fb
 said_tell (Truth t) (Tuples tuples) r s fa fb h k e = absurd fb
 said_tell (IdAnswer i) (Int m) r s fa fb h k e = absurd (integer_begins m s _ 64 fb refl (λ e. omega arith) (sym e))
-said_tell (IdAnswer i) (Text v) r s fa fb h k e = absurd (firsts_apart 64 34 _ _ (λ e. omega arith) e)
+said_tell (IdAnswer i) (Text v) r s fa fb h k e = absurd (differ 0 _ _ e refl)
 said_tell (IdAnswer i) (Truth v) r s fa fb h k e = absurd (truth_begins v s _ 64 refl refl (sym e))
 said_tell (IdAnswer i) (IdAnswer j) r s fa fb h k e = let both = ids_tell i j r s fa fb h k e in (ap IdAnswer both.0, both.1)
 said_tell (IdAnswer i) (Ids ids) r s fa fb h k e = absurd fb
@@ -136,12 +136,12 @@ answers_tell schema (Get property keys) a b r s fa fb h k e = said_tell a b r s 
 answers_tell schema (AllOf entity) a b r s fa fb h k e =
     let x = ids_of_all schema entity a fa in
     let y = ids_of_all schema entity b fb in
-    let both = lists_tell id_text IsId ids_tell (λ id r s fits e. firsts_apart 64 93 _ _ (λ e. omega arith) e) x.0 y.0 r s x.2 y.2 (ap (λ c. answer_text c ++ r) (sym x.1) ∙ e ∙ ap (λ c. answer_text c ++ s) y.1) in
+    let both = lists_tell id_text IsId ids_tell (λ id r s fits e. differ 0 _ _ e refl) x.0 y.0 r s x.2 y.2 (ap (λ c. answer_text c ++ r) (sym x.1) ∙ e ∙ ap (λ c. answer_text c ++ s) y.1) in
     (x.1 ∙ ap Ids both.0 ∙ sym y.1, both.1)
 answers_tell schema (Entries property) a b r s fa fb h k e =
     let x = tuples_of_entries schema property a fa in
     let y = tuples_of_entries schema property b fb in
-    let both = lists_tell tuple_text (All IsWritten) (λ v w r s fv fw stop end e. tuples_tell v w r s fv fw e) (λ tuple r s fits e. firsts_apart 40 93 _ _ (λ e. omega arith) e) x.0 y.0 r s x.2 y.2 (ap (λ c. answer_text c ++ r) (sym x.1) ∙ e ∙ ap (λ c. answer_text c ++ s) y.1) in
+    let both = lists_tell tuple_text (All IsWritten) (λ v w r s fv fw stop end e. tuples_tell v w r s fv fw e) (λ tuple r s fits e. differ 0 _ _ e refl) x.0 y.0 r s x.2 y.2 (ap (λ c. answer_text c ++ r) (sym x.1) ∙ e ∙ ap (λ c. answer_text c ++ s) y.1) in
     (x.1 ∙ ap Tuples both.0 ∙ sym y.1, both.1)
 answers_tell schema (Alive id) a b r s fa fb h k e =
     let x = truth_of_alive schema id a fa in

@@ -13,9 +13,8 @@ use Rattle.cloud_base.specs.declared.update.Update.{Update}
 use Rattle.diagram_text.specs.Values.{id_text}
 use Rattle.diagram_text.specs.Cells.{entity_name, cell_text, property_text, created_text, change_text, update_text, query_text}
 use Rattle.diagram_text.specs.Legible.{Legible}
-use Rattle.diagram_text.proofs.TellValues.{IsWritten, ids_tell}
-pub use Rattle.diagram_text.proofs.TellChanges.{changes_tell}
-use Rattle.diagram_text.proofs.TellChanges.{differ, word_first}
+use Rattle.diagram_text.proofs.TellChanges.{changes_tell}
+use Rattle.diagram_text.proofs.TellValues.{IsWritten, differ, word_first, ids_tell}
 use Rattle.diagram_text.proofs.TellPlaces.{name_is_word, name_some, keys_written, entity_is_name, Place, place, cell_place}
 use Rattle.diagram_text.proofs.TellNamed.{names_tell, named_cells_tell, named_cell_word, named_properties_tell, named_property_first, created_tell}
 

@@ -1,39 +1,13 @@
 -- The texts of changes tell the changes.
-use Rattle.std.proofs.Common.{◌≡◌, ℕ, suc, ◌<◌, ◌^◌, true, false, List, [], ◌∷◌, ◌++◌, length, get_or, drop, codes, ℤ, pos, negsuc, FitsSigned, refl, sym, ap, ◌∙◌, arith, append_assoc}
-use Rattle.std.specs.Prelude.{IsTrue, nat_eq, decimal}
+use Rattle.std.proofs.Common.{◌≡◌, ℕ, List, ◌∷◌, ◌++◌, drop, codes, ℤ, FitsSigned, refl, sym, ap, ◌∙◌, arith, append_assoc}
 use Rattle.std.specs.Fmt.{signed_decimal}
 use Rattle.std.specs.Int.{w64}
-use Rattle.std.specs.Int.Signed.{mag}
-use Rattle.std.proofs.lemmas.Bool.{and_parts, eq-eqb, false≢true}
-use Rattle.std.proofs.lemmas.Fmt.{decimal_nonempty}
-use Rattle.cloud_base.specs.Values.{is_name_byte, all_name_bytes}
 use Rattle.cloud_base.specs.Shaped.{IsChange}
 use Rattle.cloud_base.specs.declared.schema.CellType.{CellType}
 use Rattle.cloud_base.specs.declared.update.CellChange.{CellChange}
 use Rattle.diagram_text.specs.Values.{quoted}
 use Rattle.diagram_text.specs.Cells.{change_text}
-use Rattle.diagram_text.proofs.TellValues.{decimal_is_word, integers_tell, quoted_tell}
-
--- two lists with different bytes at a place
-pub differ : (n : ℕ) (k l : List ℕ) → k ≡ l → nat_eq (get_or k n 0) (get_or l n 0) ≡ false → ⊥
-differ n k l h apart = false≢true (sym apart ∙ eq-eqb (get_or k n 0) (get_or l n 0) (ap (λ (m : List ℕ). get_or m n 0) h))
-
--- what is no letter or digit begins no word
-pub word_first : (c : ℕ) (w r s : List ℕ) → is_name_byte c ≡ false → IsTrue (all_name_bytes w) → 0 < length w → w ++ r ≡ c ∷ s → ⊥
-word_first c [] r s stop is some h = absurd (omega arith)
-word_first c (b ∷ bytes) r s stop is some h =
-    let letter = (and_parts (is_name_byte b) (all_name_bytes bytes) is).0 in
-    false≢true (sym stop ∙ sym (ap (λ (m : List ℕ). is_name_byte (get_or m 0 0)) h) ∙ letter)
-
-decimal_no_quote : (n : ℕ) (r s : List ℕ) → n < 2 ^ 64 → decimal n ++ r ≡ 34 ∷ s → ⊥
-decimal_no_quote n r s below h = word_first 34 (decimal n) r s refl (decimal_is_word n below) (decimal_nonempty n below) h
-
-magnitude_no_quote : (y : ℤ) (r s : List ℕ) → mag y < 2 ^ 63 → signed_decimal y ++ r ≡ 34 ∷ s → ⊥
-magnitude_no_quote (pos n) r s below h = decimal_no_quote n r s (omega arith) h
-magnitude_no_quote (negsuc n) r s below h = differ 0 (45 ∷ (decimal (suc n) ++ r)) (34 ∷ s) h refl
-
-integer_no_quote : (y : ℤ) (r s : List ℕ) → FitsSigned w64 y → signed_decimal y ++ r ≡ 34 ∷ s → ⊥
-integer_no_quote y r s fits h = magnitude_no_quote y r s fits.sfits h
+use Rattle.diagram_text.proofs.TellValues.{differ, integer_begins, integers_tell, quoted_tell}
 
 -- a value and a closing parenthesis
 numbers_tell : (y z : ℤ) (r s : List ℕ) → FitsSigned w64 y → FitsSigned w64 z → (signed_decimal y ++ codes ")") ++ r ≡ (signed_decimal z ++ codes ")") ++ s → (y ≡ z) × (r ≡ s)
@@ -47,7 +21,7 @@ texts_tell a b r s h =
     (both.0, ap (drop 1) both.1)
 
 number_no_text : (y : ℤ) (b r s : List ℕ) → FitsSigned w64 y → (signed_decimal y ++ codes ")") ++ r ≡ (quoted b ++ codes ")") ++ s → ⊥
-number_no_text y b r s fits h = integer_no_quote y (41 ∷ r) _ fits (sym (append_assoc (signed_decimal y) (codes ")") r) ∙ h)
+number_no_text y b r s fits h = integer_begins y (41 ∷ r) _ 34 fits refl (λ e. omega arith) (sym (append_assoc (signed_decimal y) (codes ")") r) ∙ h)
 
 -- a number that is added or set fits
 number_added : (type : CellType) (n : ℤ) → IsChange type (CellChange.Add n) → FitsSigned w64 n

@@ -1,6 +1,6 @@
 -- The texts of cells tell their properties and keys.
-use Rattle.std.proofs.Common.{◌≡◌, ℕ, ◌<◌, true, false, List, [], ◌∷◌, ◌++◌, length, drop, codes, Option, Some, None, inl, inr, refl, sym, ap, subst, ◌∙◌, arith, append_assoc}
-use Rattle.std.specs.Prelude.{◌≢◌, ⊤, All, IsTrue, slice_get}
+use Rattle.std.proofs.Common.{◌≡◌, ℕ, ◌<◌, List, [], ◌∷◌, ◌++◌, length, drop, codes, Option, Some, None, inl, inr, refl, sym, ap, subst, ◌∙◌, arith, append_assoc}
+use Rattle.std.specs.Prelude.{⊤, All, IsTrue, slice_get}
 use Rattle.std.proofs.lemmas.Bool.{and_parts, and_from, or_left, false≢true}
 use Rattle.std.proofs.lemmas.Option.{slice_get_within, slice_get_cases, get_or_from_slice_get, MatchOption-at_some, MatchOption-at_none}
 use Rattle.std.proofs.lemmas.List.Elements.{All-nil, All-cons, All-get_or}

@@ -1,5 +1,5 @@
 -- The texts of values tell the values, and where they end.
-use Rattle.std.proofs.Common.{◌≡◌, ◌≢◌, codes, ℕ, ◌<◌, ◌^◌, suc, Bool, true, false, ◌||◌, cond, List, [], ◌∷◌, ◌++◌, length, drop, ℤ, pos, negsuc, FitsSigned, refl, ap, sym, subst, ◌∙◌, arith, append_assoc}
+use Rattle.std.proofs.Common.{◌≡◌, ◌≢◌, nat_eq, get_or, eq-eqb, codes, ℕ, ◌<◌, ◌^◌, suc, Bool, true, false, ◌||◌, cond, List, [], ◌∷◌, ◌++◌, length, drop, ℤ, pos, negsuc, FitsSigned, refl, ap, sym, subst, ◌∙◌, arith, append_assoc}
 use Rattle.std.specs.Prelude.{⊤, IsTrue, All, decimal, nat_le, ◌==◌}
 use Rattle.std.specs.Fmt.{signed_decimal}
 use Rattle.std.specs.Int.{w64}
@@ -25,6 +25,17 @@ abbrev pub IsWritten : Key → Type 0
 IsWritten (key.Int number) = FitsSigned w64 number
 IsWritten (key.Text text) = ⊤
 IsWritten (key.Ref id) = IsId id
+
+-- two lists with different bytes at a place
+pub differ : (n : ℕ) (k l : List ℕ) → k ≡ l → nat_eq (get_or k n 0) (get_or l n 0) ≡ false → ⊥
+differ n k l h apart = false≢true (sym apart ∙ eq-eqb (get_or k n 0) (get_or l n 0) (ap (λ (m : List ℕ). get_or m n 0) h))
+
+-- what is no letter or digit begins no word
+pub word_first : (c : ℕ) (w r s : List ℕ) → is_name_byte c ≡ false → IsTrue (all_name_bytes w) → 0 < length w → w ++ r ≡ c ∷ s → ⊥
+word_first c [] r s stop is some h = absurd (omega arith)
+word_first c (b ∷ bytes) r s stop is some h =
+    let letter = (and_parts (is_name_byte b) (all_name_bytes bytes) is).0 in
+    false≢true (sym stop ∙ sym (ap (λ (m : List ℕ). is_name_byte (get_or m 0 0)) h) ∙ letter)
 
 -- what stops a word doesn't begin with a letter or a digit
 not_stopped : (y : ℕ) (ys r : List ℕ) → IsTrue (is_name_byte y) → Stops r → r ≢ y ∷ ys
@@ -54,15 +65,8 @@ decimals_tell m n r s p q h k e =
     let both = words_tell (decimal m) (decimal n) r s (decimal_is_word m p) (decimal_is_word n q) h k e in
     (decimal_injective m n p q both.0, both.1)
 
--- a word begins with a letter or a digit
-word_begins : (word r s : List ℕ) (b : ℕ) → 0 < length word → IsTrue (all_name_bytes word) → is_name_byte b ≡ false → word ++ r ≢ b ∷ s
-word_begins [] r s b some h stops e = absurd (omega arith)
-word_begins (x ∷ word) r s b some h stops e =
-    let first : b ≡ x = cc e in
-    false≢true (sym stops ∙ ap is_name_byte first ∙ (and_parts (is_name_byte x) (all_name_bytes word) h).0)
-
 decimal_begins : (n : ℕ) (r s : List ℕ) (b : ℕ) → n < 2 ^ 64 → is_name_byte b ≡ false → decimal n ++ r ≢ b ∷ s
-decimal_begins n r s b h = word_begins (decimal n) r s b (decimal_is_IsNumeral n h).0.0 (decimal_is_word n h)
+decimal_begins n r s b h stops e = word_first b (decimal n) r s stops (decimal_is_word n h) (decimal_is_IsNumeral n h).0.0 e
 
 -- and an integer, or with a minus
 pub integer_begins : (z : ℤ) (r s : List ℕ) (b : ℕ) → FitsSigned w64 z → is_name_byte b ≡ false → b ≢ 45 → signed_decimal z ++ r ≢ b ∷ s
@@ -80,10 +84,6 @@ integers_tell (negsuc m) (negsuc n) r s p q h k e =
     let same : m ≡ n = omega (arith, both.0) in
     (ap negsuc same, both.1)
 
-pub firsts_apart : (x y : ℕ) (xs ys : List ℕ) → x ≢ y → x ∷ xs ≢ y ∷ ys
-firsts_apart x y xs ys h e = h (cc e)
-
--- a byte that a backslash stands before
 abbrev is_special : ℕ → Bool
 is_special byte = (byte == 34) || (byte == 92)
 
@@ -99,7 +99,7 @@ bytes_by x y r s false false h k e = (cc e, ap (drop 1) e)
 
 -- no byte of a text begins as the quote that ends it does
 begins_by : (x : ℕ) (r s : List ℕ) (t : Bool) → is_special x ≡ t → escaped_by t x ++ r ≢ 34 ∷ s
-begins_by x r s true h e = firsts_apart 92 34 (x ∷ r) s (λ e. omega arith) e
+begins_by x r s true h e = differ 0 (92 ∷ x ∷ r) (34 ∷ s) e refl
 begins_by x r s false h e = let is : x ≡ 34 = cc e in false≢true (sym h ∙ ap is_special is)
 
 -- up to the quote that ends a text
@@ -136,9 +136,9 @@ keys_tell (key.Int y) (key.Text b) r s p q h k e = absurd (integer_begins y r _ 
 keys_tell (key.Int y) (key.Ref b) r s p q h k e = absurd (integer_begins y r _ 64 p refl (λ e. omega arith) e)
 keys_tell (key.Text a) (key.Int z) r s p q h k e = absurd (integer_begins z s _ 34 q refl (λ e. omega arith) (sym e))
 keys_tell (key.Text a) (key.Text b) r s p q h k e = let both = quoted_tell a b r s e in (ap key.Text both.0, both.1)
-keys_tell (key.Text a) (key.Ref b) r s p q h k e = absurd (firsts_apart 34 64 _ _ (λ e. omega arith) e)
+keys_tell (key.Text a) (key.Ref b) r s p q h k e = absurd (differ 0 _ _ e refl)
 keys_tell (key.Ref a) (key.Int z) r s p q h k e = absurd (integer_begins z s _ 64 q refl (λ e. omega arith) (sym e))
-keys_tell (key.Ref a) (key.Text b) r s p q h k e = absurd (firsts_apart 64 34 _ _ (λ e. omega arith) e)
+keys_tell (key.Ref a) (key.Text b) r s p q h k e = absurd (differ 0 _ _ e refl)
 keys_tell (key.Ref a) (key.Ref b) r s p q h k e = let both = ids_tell a b r s p q h k e in (ap key.Ref both.0, both.1)
 
 module _ {X : Type 0} (text : X → List ℕ) (Fits : X → Type 0) (close : ℕ)

@@ -1,17 +1,22 @@
 -- When the text of a report tells its steps: names are told apart, and each step is of the schema's shape.
-use Rattle.std.specs.Prelude.{◌≡◌, ℕ, ◌<◌, ◌^◌, ⊤, List, [], length, All, FitsSigned}
+use Rattle.std.specs.Prelude.{◌≡◌, refl, ℕ, ◌<◌, ◌^◌, ⊤, true, List, [], ◌∷◌, length, All, pos, codes, FitsSigned}
 use Rattle.std.specs.Int.{w64}
+use Rattle.std.proofs.Common.{lit<, lt→ltb}
+use Rattle.std.proofs.Math.Nat.{suc-ne-zero}
 use Rattle.cloud_base.specs.Values.{IsName, IsText}
 use Rattle.cloud_base.specs.Shaped.{IsId, IsShaped, IsShapedQuery, IsShapedAnswer}
 use Rattle.cloud_base.specs.declared.batch.End.{End}
+use Rattle.cloud_base.specs.declared.schema.CellType.{CellType}
 use Rattle.cloud_base.specs.declared.schema.KeyType.{KeyType}
 use Rattle.cloud_base.specs.declared.schema.Owner.{Owner}
 use Rattle.cloud_base.specs.declared.schema.Property.{Property}
 use Rattle.cloud_base.specs.declared.schema.Schema.{Schema}
 use Rattle.cloud_base.specs.declared.update.Answer.{Answer}
+use Rattle.cloud_base.specs.declared.update.CellChange.{CellChange}
+use Rattle.cloud_base.specs.declared.update.Update.{Update}
 use Rattle.revision_diagram.specs.declared.step.Step.{Step}
 use Rattle.diagram_text.specs.Cells.{entity_name, property_text}
-use Rattle.diagram_text.specs.Text.{client_name, report_text}
+use Rattle.diagram_text.specs.Text.{client_name, step_line, report_text}
 
 -- a global has no keys, an array has a name, and an entity's property is one of an entity that is there
 abbrev pub IsOwner : Schema → Owner → List KeyType → Type 0
@@ -58,3 +63,26 @@ IsEnd (End.Trap line) = line < 2 ^ 32
 abbrev pub Tells : Schema → List (List ℕ) → List Step → List End → Type 0
 Tells schema names steps ends =
     (other : List Step) (later : List End) → All (IsStep schema names) other → All IsEnd later → report_text schema names other later ≡ report_text schema names steps ends → (other ≡ steps) × (later ≡ ends)
+
+module _ where
+  abbrev named : List ℕ → Property
+  named name = record { name = name; owner = Owner.Global; cell = CellType.Int; keys = [] }
+
+  -- two globals of one name
+  abbrev twins : Schema
+  twins = record { properties = named (codes "g") ∷ named (codes "g") ∷ []; entities = [] }
+
+  abbrev add_one : ℕ → Step
+  add_one global = Step.Do 1 (Update.Cell global [] (CellChange.Add (pos 1)))
+
+  -- their updates are written alike, so such a schema isn't legible
+  pub example_twins : (step_line twins [] 2 (add_one 0) ≡ step_line twins [] 2 (add_one 1)) × ¬ Legible twins []
+  example_twins = (refl, λ h. suc-ne-zero 0 (h.properties_differ 1 0 (lit< tt) (lit< tt) refl))
+
+  -- empty lists of ids and of keys are written alike, so lists aren't printed
+  pub example_lists : (step_line twins [] 2 (Step.Say 1 (Answer.Ids [])) ≡ step_line twins [] 2 (Step.Say 1 (Answer.Tuples []))) × ¬ IsStep twins [] (Step.Say 1 (Answer.Ids []))
+  example_lists = (refl, λ h. h.1)
+
+  -- a revision's number may be the greatest of 32 bits, and no greater one
+  pub example_numbers : IsStep twins [] (Step.Mark 4294967295 true) × ¬ IsStep twins [] (Step.Mark 4294967296 true)
+  example_numbers = (lit< tt, λ h. lt→ltb 4294967296 4294967296 h)

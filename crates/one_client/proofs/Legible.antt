@@ -1,5 +1,5 @@
 -- A run's report is legible: its names are told apart, and its steps are of the schema's shape.
-use Rattle.std.proofs.Common.{◌≡◌, ◌≢◌, ◌∙◌, refl, sym, ap, subst, arith, ℕ, zero, suc, ◌+◌, ◌*◌, ◌-◌, neg_ℤ, ◌<◌, ◌≤◌, ◌^◌, Bool, true, false, cond, List, [], ◌∷◌, ◌++◌, length, get_or, ℤ, pos, negsuc, FitsSigned, Option, Some, None}
+use Rattle.std.proofs.Common.{◌≡◌, ◌≢◌, ◌∙◌, refl, sym, ap, subst, arith, ℕ, zero, suc, ◌+◌, ◌*◌, ◌-◌, neg_ℤ, ◌<◌, ◌≤◌, ◌^◌, Bool, true, false, cond, List, [], ◌∷◌, ◌++◌, length, get_or, pos, FitsSigned, Option, Some, None}
 use Rattle.std.specs.Prelude.{All, IfSome, MatchOption, slice_get, map, unwrap_or, if◌then◌else◌, option_map}
 use Rattle.std.specs.Option.{option_map_or}
 use Rattle.std.proofs.lemmas.Bool.{false≢true}
@@ -7,7 +7,6 @@ use Rattle.std.proofs.lemmas.Slice.Eq.{bytes_eq-Decides}
 use Rattle.std.specs.List.{AllByRecursion}
 use Rattle.std.specs.Int.{w64}
 use Rattle.std.specs.Str.{bytes_eq}
-use Rattle.std.proofs.lemmas.Int.{ints}
 use Rattle.std.proofs.lemmas.List.Elements.{All-from_recursion, All-nil, All-cons}
 use Rattle.cloud_base.specs.Values.{IsName}
 use Rattle.cloud_base.specs.Log.{of_cell}
@@ -18,7 +17,6 @@ use Rattle.cloud_base.specs.declared.batch.End.{End}
 use Rattle.cloud_base.specs.declared.schema.CellType.TheVariants.{Int as IntCell}
 use Rattle.cloud_base.specs.declared.schema.Property.{Property}
 use Rattle.cloud_base.specs.declared.schema.Schema.{Schema}
-use Rattle.cloud_base.specs.declared.update.Answer.{Answer}
 use Rattle.cloud_base.specs.declared.update.Answer.TheVariants.{Int}
 use Rattle.cloud_base.specs.declared.update.CellChange.{CellChange}
 use Rattle.cloud_base.specs.declared.update.Update.{Update}
@@ -29,11 +27,11 @@ use Rattle.cloud_parse.specs.declared.tree.Operation.{Operation}
 use Rattle.cloud_parse.specs.declared.tree.Operation.TheVariants.{Add, Set}
 use Rattle.cloud_parse.specs.Form.{Form, IsForm, ActFits, AllDifferent, place_of, amount_value}
 use Rattle.revision_diagram.specs.declared.step.Step.{Step}
-use Rattle.revision_diagram.specs.declared.step.Step.TheVariants.{Fork, Join, Do, Ask, Say, Mark}
+use Rattle.revision_diagram.specs.declared.step.Step.TheVariants.{Fork}
 use Rattle.diagram_text.specs.Cells.{property_of}
 use Rattle.diagram_text.specs.Legible.{Legible, IsProperty, IsSaid, IsStep, IsEnd, Tells}
 use Rattle.one_client.specs.Program.{schema_of, global_property, budget, cost, begun, end_from, end_of, query_of, change_of, update_of}
-use Rattle.one_client.specs.Steps.{Run, first_run, steps_from, steps_of, goes_on, pull, pulled, yield_steps, after_yield, after_update}
+use Rattle.one_client.specs.Steps.{Run, first_run, steps_from, steps_of, goes_on, pull, yield_steps, after_yield, after_update}
 
 -- ---- names
 same_bytes : (a : List ℕ) → bytes_eq a a ≡ true
