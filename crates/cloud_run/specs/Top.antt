@@ -6,7 +6,7 @@ use Rattle.cloud_parse.specs.Form.{Form, IsForm, HasForm}
 use Rattle.cloud_parse.specs.Parse.{most_text}
 use Rattle.cloud_parse.specs.declared.fault.Which.TheVariants as which
 use Rattle.revision_diagram.specs.declared.step.Step.{Step}
-use Rattle.diagram_text.specs.Legible.{Tells}
+use Rattle.diagram_text.specs.Legible.{Told}
 use Rattle.diagram_text.specs.Text.{report_text}
 use Rattle.one_client.specs.Headline.{Headline}
 use Rattle.one_client.specs.Program.{schema_of, trace}
@@ -65,11 +65,11 @@ Writes (status.Limit w) left after held now = now ≡ held
 Writes status.Memory left after held now = now ≡ held
 
 -- What was written is the text of a lawful diagram of the source's program: the client runs that program up to its
--- end, and each of its queries is answered as its updates make it. No other diagram has that text.
+-- end, and each of its queries is answered as its updates make it. The text tells the diagram: no other one has it.
 abbrev pub WritesLawful : Option (List ℕ) → Option (List ℕ) → Option (List ℕ) → Type 0
 WritesLawful left held now =
     (f : Form) × (steps : List Step) × (end : End) × LeftForm left f × Headline (schema_of f) (trace f) end steps
-    × Got held now (report_text (schema_of f) (f.client ∷ []) steps (end ∷ [])) × Tells (schema_of f) (f.client ∷ []) steps (end ∷ [])
+    × Got held now (report_text (schema_of f) (f.client ∷ []) steps (end ∷ [])) × Told (schema_of f) (f.client ∷ []) steps (end ∷ [])
 
 -- the source tells its text, and that is short enough and has a tree
 abbrev pub Accepted : Option (List ℕ) → Type 0

@@ -59,10 +59,11 @@ IsEnd End.Done = ⊤
 IsEnd End.Spent = ⊤
 IsEnd (End.Trap line) = line < 2 ^ 32
 
--- no other steps and ends have this text
-abbrev pub Tells : Schema → List (List ℕ) → List Step → List End → Type 0
-Tells schema names steps ends =
-    (other : List Step) (later : List End) → All (IsStep schema names) other → All IsEnd later → report_text schema names other later ≡ report_text schema names steps ends → (other ≡ steps) × (later ≡ ends)
+-- the steps and ends are of the schema's shape, and no others of that shape have their text
+pub record Told (schema : Schema) (names : List (List ℕ)) (steps : List Step) (ends : List End) : Type 0 where
+  pub steps_fit : All (IsStep schema names) steps
+  pub ends_fit : All IsEnd ends
+  pub alone : (other : List Step) (later : List End) → All (IsStep schema names) other → All IsEnd later → report_text schema names other later ≡ report_text schema names steps ends → (other ≡ steps) × (later ≡ ends)
 
 module _ where
   abbrev named : List ℕ → Property

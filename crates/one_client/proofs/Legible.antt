@@ -29,7 +29,7 @@ use Rattle.cloud_parse.specs.Form.{Form, IsForm, ActFits, AllDifferent, place_of
 use Rattle.revision_diagram.specs.declared.step.Step.{Step}
 use Rattle.revision_diagram.specs.declared.step.Step.TheVariants.{Fork}
 use Rattle.diagram_text.specs.Cells.{property_of}
-use Rattle.diagram_text.specs.Legible.{Legible, IsProperty, IsSaid, IsStep, IsEnd, Tells}
+use Rattle.diagram_text.specs.Legible.{Legible, IsProperty, IsSaid, IsStep, IsEnd, Told}
 use Rattle.one_client.specs.Program.{schema_of, global_property, budget, cost, begun, end_from, end_of, query_of, change_of, update_of}
 use Rattle.one_client.specs.Steps.{Run, first_run, steps_from, steps_of, goes_on, pull, yield_steps, after_yield, after_update}
 
@@ -200,8 +200,8 @@ end_fits zero (act ∷ acts) = tt
 end_fits (suc turns) (act ∷ acts) = end_fits (suc turns - cost act) acts
 
 pub run_tells : ((changes : List CellChange) → FitsSigned w64 (plain_int changes))
-    → ((schema : Schema) (names : List (List ℕ)) (steps : List Step) (ends : List End) → Legible schema names → All (IsStep schema names) steps → All IsEnd ends → Tells schema names steps ends)
-    → (f : Form) → IsForm f → Tells (schema_of f) (f.client ∷ []) (steps_of f) (end_of f ∷ [])
+    → ((schema : Schema) (names : List (List ℕ)) (steps : List Step) (ends : List End) → Legible schema names → All (IsStep schema names) steps → All IsEnd ends → Told schema names steps ends)
+    → (f : Form) → IsForm f → Told (schema_of f) (f.client ∷ []) (steps_of f) (end_of f ∷ [])
 run_tells fits tells f h =
     let few = begun_few budget f.acts in
     let room : Room first_run (length (begun budget f.acts)) = record { standing = omega (arith, few); received = tt; next = omega (arith, few) } in

@@ -3,7 +3,7 @@
 
 ghost use Rattle.std.specs.Prelude.{[], ◌∷◌};
 ghost use Rattle.cloud_parse.specs.Form.{Form, IsForm};
-ghost use Rattle.diagram_text.specs.Legible.{Tells};
+ghost use Rattle.diagram_text.specs.Legible.{Told};
 ghost use Rattle.one_client.specs.Headline.{Headline};
 ghost use Rattle.one_client.specs.Program.{schema_of, trace, end_of};
 ghost use Rattle.one_client.specs.Steps.{steps_of};
@@ -37,7 +37,7 @@ pub fn runs_are_lawful()
 
 /// The text of a run's report tells the steps and the end of the run.
 pub fn reports_tell_runs()
-    ensures { (f : Form) → IsForm f → Tells (schema_of f) (f.client ∷ []) (steps_of f) (end_of f ∷ []) }
+    ensures { (f : Form) → IsForm f → Told (schema_of f) (f.client ∷ []) (steps_of f) (end_of f ∷ []) }
 {
     plain_steps();
     reports_tell_steps();
