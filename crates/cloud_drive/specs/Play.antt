@@ -1,6 +1,7 @@
 -- One act of a run, and what the player has where the run is.
-use Rattle.std.specs.Prelude.{◌≡◌, refl, ℕ, ◌+◌, if◌then◌else◌, Bool, true, false, List, [], ◌∷◌, ◌++◌, Option, Some, None, option_map, IfSome, pos, codes}
+use Rattle.std.specs.Prelude.{◌≡◌, refl, ℕ, zero, suc, ⊤, MatchOption, ◌+◌, if◌then◌else◌, Bool, true, false, List, [], ◌∷◌, ◌++◌, length, Option, Some, None, option_map, IfSome, pos, codes}
 use Rattle.std.specs.Int.{int_wrap}
+use Rattle.std.proofs.Common.{subst}
 use Rattle.cloud_base.specs.Answer.{answer}
 use Rattle.cloud_base.specs.Dead.{is_dead}
 use Rattle.cloud_base.specs.PlainCell.{plain_value, plain_int}
@@ -15,8 +16,11 @@ use Rattle.revision_diagram.specs.declared.step.Step.{Step}
 use Rattle.revision_diagram.specs.declared.step.Step.TheVariants.{Fork, Join, Do, Ask, Say, Mark}
 use Rattle.one_client.specs.Program.{global_property, update_of, query_of}
 use Rattle.one_client.specs.Steps.{Run, is_yield, yield_steps, after_yield, after_update}
-use Rattle.global_cells.specs.Cells.{CellsStand}
+use Rattle.fj_core.specs.declared.int_cell.IntCell.{IntCell}
+use Rattle.fj_core.specs.IntCells.{IntStands}
+use Rattle.global_cells.specs.Cells.{CellsStand, changes_of}
 use Rattle.cloud_drive.specs.declared.player.Player.{Player}
+use Rattle.cloud_drive.specs.declared.player.Received.{Received}
 
 -- how many of the acts are yields
 abbrev pub yields_in : List Act → ℕ
@@ -79,3 +83,35 @@ module _ where
   -- a yield with revision 3 received, and a further yield to come: a pull, a push, and revision 5 is received
   pub example_yield : (act_steps counter (here (Some 3)) Yield true ≡ Mark 1 false ∷ Join 3 1 ∷ Fork 3 0 ∷ Join 0 3 ∷ Fork 0 0 ∷ []) × (after_act (here (Some 3)) Yield true ≡ record { standing = 4; received = Some 5; next = 6; log = update_of 0 Add two ∷ [] })
   example_yield = (refl, refl)
+
+  -- one cell, and of other globals there is none
+  one_stands : (cell : IntCell) (base delta : List Update) → IntStands cell (changes_of 0 base) (changes_of 0 delta) → CellsStand (cell ∷ []) base delta
+  one_stands cell base delta stands zero other found = subst (λ o. MatchOption o ⊤ (λ c. IntStands c (changes_of 0 base) (changes_of 0 delta))) found stands
+  one_stands cell base delta stands (suc n) other found = subst (λ o. MatchOption o ⊤ (λ c. IntStands c (changes_of (suc n) base) (changes_of (suc n) delta))) found tt
+
+  -- 2 was added since the fork of revision 1, and nothing was pushed
+  abbrev player : Player
+  player = record {
+    server = record { was_set = false; base = pos 0; difference = pos 0 } ∷ [];
+    current = record { was_set = false; base = pos 0; difference = pos 2 } ∷ [];
+    received = None;
+    standing = 1;
+    next = 4;
+    steps = [];
+    even_server = refl;
+    even_received = λ r none. subst (λ o. MatchOption o ⊤ (λ (x : Received). length x.globals ≡ 1)) none tt;
+  }
+
+  pub example_follows : Follows player (here None)
+  unfolding int_wrap
+  example_follows = record {
+    standing = refl;
+    received = refl;
+    next = refl;
+    pushed = [];
+    since = update_of 0 Add two ∷ [];
+    log = refl;
+    server = one_stands _ [] [] (refl, refl, refl);
+    current = one_stands _ [] (update_of 0 Add two ∷ []) (refl, refl, refl);
+    waiting = tt;
+  }

@@ -1,9 +1,11 @@
 -- What a command reads and writes, by its status.
 use Rattle.std.specs.Prelude.{◌≡◌, refl, ℕ, ◌+◌, ◌<◌, ◌≤◌, List, [], ◌∷◌, length, Option, Some, None, codes}
+use Rattle.std.proofs.Common.{lit≤}
 use Rattle.cloud_base.specs.Causes.{Rose}
 use Rattle.cloud_base.specs.declared.batch.End.{End}
 use Rattle.cloud_parse.specs.Form.{Form, IsForm, HasForm}
 use Rattle.cloud_parse.specs.Parse.{most_text}
+use Rattle.cloud_parse.specs.Tokens.{tokens_behind, lexeme_at}
 use Rattle.cloud_parse.specs.declared.fault.Which.TheVariants as which
 use Rattle.revision_diagram.specs.declared.step.Step.{Step}
 use Rattle.diagram_text.specs.Legible.{Told}
@@ -89,3 +91,8 @@ module _ where
   -- where memory ran out the sink holds what it held, and where the words are wrong no end was looked for
   pub example_nothing_written : Writes status.Memory (Some (codes "schema { ")) (Some []) (Some (codes "x")) (Some (codes "x")) × EndSeen status.Words 3 3
   example_nothing_written = (refl, refl)
+
+  -- the smallest source is accepted, and one that tells nothing isn't
+  pub example_accepted : Accepted (Some (codes "schema { } client a { }")) × ¬ Accepted None
+  unfolding tokens_behind lexeme_at
+  example_accepted = ((lit≤ tt, (record { globals = []; client = codes "a"; acts = [] }, record { form = record { few = lit≤ tt; names = tt; different = tt; client = refl; acts = tt }; written = refl })), λ h. h)

@@ -1,7 +1,8 @@
 -- When the text of a report tells its steps: names are told apart, and each step is of the schema's shape.
 use Rattle.std.specs.Prelude.{◌≡◌, refl, ℕ, ◌<◌, ◌^◌, ⊤, true, List, [], ◌∷◌, length, All, pos, codes, FitsSigned}
 use Rattle.std.specs.Int.{w64}
-use Rattle.std.proofs.Common.{lit<, lt→ltb}
+use Rattle.std.proofs.Common.{ap, lit<, lit≤, lt→ltb}
+use Rattle.std.proofs.lemmas.List.Elements.{All-nil, All-cons}
 use Rattle.std.proofs.Math.Nat.{suc-ne-zero}
 use Rattle.cloud_base.specs.Values.{IsName, IsText}
 use Rattle.cloud_base.specs.Shaped.{IsId, IsShaped, IsShapedQuery, IsShapedAnswer}
@@ -79,6 +80,17 @@ module _ where
   -- their updates are written alike, so such a schema isn't legible
   pub example_twins : (step_line twins [] 2 (add_one 0) ≡ step_line twins [] 2 (add_one 1)) × ¬ Legible twins []
   example_twins = (refl, λ h. suc-ne-zero 0 (h.properties_differ 1 0 (lit< tt) (lit< tt) refl))
+
+  fits : IsStep twins [] (add_one 1)
+  fits = (lit< tt, ((lit< tt, (lit≤ tt, tt)), record { sfits = lit< tt }))
+
+  abbrev global_of : List Step → ℕ
+  global_of (Step.Do r (Update.Cell global keys change) ∷ steps) = global
+  global_of _ = 0
+
+  -- and so its text doesn't tell a step
+  pub example_not_told : ¬ Told twins [] (add_one 0 ∷ []) []
+  example_not_told = λ h. suc-ne-zero 0 (ap global_of (h.alone (add_one 1 ∷ []) [] (All-cons (IsStep twins []) (add_one 1) [] fits (All-nil (IsStep twins []))) (All-nil IsEnd) refl).0)
 
   -- empty lists of ids and of keys are written alike, so lists aren't printed
   pub example_lists : (step_line twins [] 2 (Step.Say 1 (Answer.Ids [])) ≡ step_line twins [] 2 (Step.Say 1 (Answer.Tuples []))) × ¬ IsStep twins [] (Step.Say 1 (Answer.Ids []))

@@ -21,7 +21,7 @@ use Rattle.revision_diagram.specs.declared.step.Step.TheVariants.{Fork, Join, Do
 use Rattle.revision_diagram.specs.Diagram.{path, acts_on}
 use Rattle.revision_diagram.specs.Lawful.{lawful, Lawful}
 use Rattle.revision_diagram.specs.Right.{AnsweredRight}
-use Rattle.revision_diagram.specs.Once.{Once, AfterSeen}
+use Rattle.revision_diagram.specs.Once.{Once, AfterSeen, joins_apart}
 use Rattle.revision_diagram.specs.Story.{story, is_in_line, LineLaw, ProgramLaw}
 use Rattle.revision_diagram.specs.Meeting.{Meeting, Placed, AtMarks, FlushLaw, is_placed, is_at_mark, below_server}
 use Rattle.revision_diagram.proofs.Decide.{each_step_passes, once_passes, AnsweredRight_passes}
@@ -173,6 +173,10 @@ doubled_path = refl
 
 pub doubles : ¬ (Once doubled)
 doubles h = let no = (h.1.1.1.1 2 refl).0 1 in cc
+
+-- a join into the server, which lacks the update, is apart; this one isn't
+pub is_apart : (joins_apart (Fork 0 0 ∷ add 1 milk 2 ∷ []) (Join 0 1) ≡ true) × (joins_apart (Fork 0 0 ∷ add 1 milk 2 ∷ Fork 1 0 ∷ []) (Join 2 1) ≡ false)
+is_apart = (refl, refl)
 
 -- eggs were added by who had seen the milk, and stand before it
 abbrev pub out_of_order : List Step
