@@ -22,6 +22,7 @@ left_form None after taken f p e has = has.form
 left_form (Some bytes) None taken f p e has = absurd p
 left_form (Some bytes) (Some rest) taken f p e has = subst (λ text. HasForm text f) (whole bytes taken rest p e) has
 
+-- what has a tree has one within the limits
 pub is_form : (left : Option (List ℕ)) (f : Form) → LeftForm left f → IsForm f
 is_form None f h = h
 is_form (Some text) f h = h.form

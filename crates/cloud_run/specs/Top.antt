@@ -1,6 +1,7 @@
 -- What a command reads and writes, by its status.
-use Rattle.std.specs.Prelude.{◌≡◌, refl, ℕ, ◌+◌, ◌<◌, ◌≤◌, List, [], ◌∷◌, length, Option, Some, None, codes}
-use Rattle.std.proofs.Common.{lit≤}
+use Rattle.std.specs.Prelude.{◌≡◌, refl, ℕ, ◌+◌, ◌<◌, ◌≤◌, List, [], ◌∷◌, length, Option, Some, None, is_none, codes}
+use Rattle.std.proofs.Common.{ap, lit≤, not-suc-le-zero}
+use Rattle.std.proofs.lemmas.Bool.{true≢false}
 use Rattle.cloud_base.specs.Causes.{Rose}
 use Rattle.cloud_base.specs.declared.batch.End.{End}
 use Rattle.cloud_parse.specs.Form.{Form, IsForm, HasForm}
@@ -67,7 +68,8 @@ Writes (status.Limit w) left after held now = now ≡ held
 Writes status.Memory left after held now = now ≡ held
 
 -- What was written is the text of a lawful diagram of the source's program: the client runs that program up to its
--- end, and each of its queries is answered as its updates make it. The text tells the diagram: no other one has it.
+-- end, and each of its queries is answered as its updates make it. The text tells the steps and the end: no others of
+-- the schema's shape have it.
 abbrev pub WritesLawful : Option (List ℕ) → Option (List ℕ) → Option (List ℕ) → Type 0
 WritesLawful left held now =
     (f : Form) × (steps : List Step) × (end : End) × LeftForm left f × Headline (schema_of f) (trace f) end steps
@@ -91,6 +93,11 @@ module _ where
   -- where memory ran out the sink holds what it held, and where the words are wrong no end was looked for
   pub example_nothing_written : Writes status.Memory (Some (codes "schema { ")) (Some []) (Some (codes "x")) (Some (codes "x")) × EndSeen status.Words 3 3
   example_nothing_written = (refl, refl)
+
+  -- a text with a byte that begins no token has no form, and the empty text isn't too long
+  pub example_judges : Judges (status.Limit which.Form) (codes "schema { } client a { ! }") × ¬ Judges (status.Limit which.Bytes) []
+  unfolding tokens_behind lexeme_at
+  example_judges = ((lit≤ tt, λ f h. true≢false (ap is_none h.written)), not-suc-le-zero)
 
   -- the smallest source is accepted, and one that tells nothing isn't
   pub example_accepted : Accepted (Some (codes "schema { } client a { }")) × ¬ Accepted None

@@ -1,5 +1,7 @@
 -- Worked examples of the definitions.
-use Rattle.std.proofs.Common.{◌≡◌, refl, ℕ, List, [], ◌∷◌, true, false, pos, negsuc, codes}
+use Rattle.std.proofs.Common.{◌≡◌, refl, ℕ, zero, suc, ◌<◌, arith, List, [], ◌∷◌, true, false, pos, negsuc, codes}
+use Rattle.std.proofs.lemmas.List.Elements.{All-from_recursion, All-nil}
+use Rattle.cloud_base.specs.Values.{IsName}
 use Rattle.std.specs.Fmt.{digits}
 use Rattle.cloud_base.specs.declared.batch.End.{End}
 use Rattle.cloud_base.specs.declared.key.Key.{Key}
@@ -13,8 +15,10 @@ use Rattle.cloud_base.specs.declared.update.Query.{Query}
 use Rattle.cloud_base.specs.declared.update.Update.{Update}
 use Rattle.revision_diagram.specs.declared.step.Step.{Step}
 use Rattle.diagram_text.specs.Values.{quoted, id_text, tuple_text, answer_text}
-use Rattle.diagram_text.specs.Cells.{cell_text, update_text, query_text}
-use Rattle.diagram_text.specs.Text.{step_line, steps_text, end_line, report_text}
+use Rattle.diagram_text.specs.Cells.{cell_text, property_text, update_text, query_text}
+use Rattle.diagram_text.specs.Text.{client_name, step_line, steps_text, end_line, report_text}
+use Rattle.diagram_text.specs.Legible.{Legible, IsProperty}
+use Rattle.diagram_text.proofs.TellValues.{differ}
 
 -- a quote and a backslash have a backslash before them
 pub quoted_escapes : quoted (codes "a\"b\\c") ≡ codes "\"a\\\"b\\\\c\""
@@ -116,3 +120,39 @@ pub short_report : report_text shop clients (Step.Fork 0 0 ∷ Step.Fork 0 1 ∷
     ≡ codes "fork 0 1 ann\nfork 0 2 bob\ndo 2 g.set(5)\nfork 2 3 bob\njoin 0 2\nsay 3 true\nend ann Done\nend bob Spent\n"
 unfolding digits
 short_report = refl
+
+-- a global, an array and two clients, which are told apart
+abbrev two_properties : Schema
+two_properties = record {
+  properties =
+      record { name = codes "g"; owner = Owner.Global; cell = CellType.Int; keys = [] }
+      ∷ record { name = codes "p"; owner = Owner.Array (codes "A"); cell = CellType.Int; keys = KeyType.Text ∷ [] }
+      ∷ [];
+  entities = [];
+}
+
+texts_apart : (a b : ℕ) → a < 2 → b < 2 → property_text two_properties a ≡ property_text two_properties b → a ≡ b
+texts_apart zero zero la lb e = refl
+texts_apart zero (suc zero) la lb e = absurd (differ 0 _ _ e refl)
+texts_apart (suc zero) zero la lb e = absurd (differ 0 _ _ e refl)
+texts_apart (suc zero) (suc zero) la lb e = refl
+texts_apart (suc (suc a)) b la lb e = absurd (omega arith)
+texts_apart a (suc (suc b)) la lb e = absurd (omega arith)
+
+names_apart : (a b : ℕ) → a < 2 → b < 2 → client_name (codes "ann" ∷ codes "bob" ∷ []) a ≡ client_name (codes "ann" ∷ codes "bob" ∷ []) b → a ≡ b
+names_apart zero zero la lb e = refl
+names_apart zero (suc zero) la lb e = absurd (differ 0 _ _ e refl)
+names_apart (suc zero) zero la lb e = absurd (differ 0 _ _ e refl)
+names_apart (suc zero) (suc zero) la lb e = refl
+names_apart (suc (suc a)) b la lb e = absurd (omega arith)
+names_apart a (suc (suc b)) la lb e = absurd (omega arith)
+
+pub a_legible_schema : Legible two_properties (codes "ann" ∷ codes "bob" ∷ [])
+a_legible_schema = record {
+  properties = All-from_recursion (IsProperty two_properties) two_properties.properties ((refl, refl), ((refl, refl), tt));
+  entities = All-nil _;
+  clients = All-from_recursion IsName (codes "ann" ∷ codes "bob" ∷ []) (refl, (refl, tt));
+  properties_differ = texts_apart;
+  entities_differ = λ a b la lb e. absurd (omega arith);
+  clients_differ = names_apart;
+}

@@ -1,6 +1,6 @@
 -- The texts of answers tell the answers, by their queries.
 use Rattle.std.proofs.Common.{◌≡◌, ◌≢◌, ◌∙◌, refl, sym, ap, subst, arith, ℕ, ◌<◌, Bool, true, false, List, [], ◌∷◌, ◌++◌, length, drop, codes, ℤ, pos, negsuc, FitsSigned}
-use Rattle.std.specs.Prelude.{All, Option, Some, None, MatchOption, decimal, ◌==◌}
+use Rattle.std.specs.Prelude.{All, decimal, ◌==◌}
 use Rattle.std.proofs.lemmas.Bool.{false≢true}
 use Rattle.std.specs.Fmt.{signed_decimal}
 use Rattle.std.specs.Int.{w64}
@@ -10,11 +10,10 @@ use Rattle.std.proofs.lemmas.Fmt.{decimal_is_IsNumeral}
 use Rattle.std.proofs.lemmas.List.{append_assoc}
 use Rattle.std.proofs.lemmas.Str.Parse.{digit_from_value}
 use Rattle.cloud_base.specs.Values.{Id}
-use Rattle.cloud_base.specs.Shaped.{IsId, IsValue, IsCell, AreKeys, IsShapedAnswer, cell_type, property_at}
+use Rattle.cloud_base.specs.Shaped.{IsId, IsValue, IsShapedAnswer, cell_type}
 use Rattle.cloud_base.specs.declared.key.Key.{Key}
 use Rattle.cloud_base.specs.declared.schema.CellType.{CellType}
 use Rattle.cloud_base.specs.declared.schema.CellType.TheVariants as cell
-use Rattle.cloud_base.specs.declared.schema.Property.{Property}
 use Rattle.cloud_base.specs.declared.schema.Schema.{Schema}
 use Rattle.cloud_base.specs.declared.update.Answer.{Answer}
 use Rattle.cloud_base.specs.declared.update.Answer.TheVariants.{Int, Text, Truth, Id as IdAnswer, Ids, Tuples}
@@ -22,7 +21,7 @@ use Rattle.cloud_base.specs.declared.update.Query.{Query}
 use Rattle.cloud_base.specs.declared.update.Query.TheVariants.{Get, All as AllOf, Entries, Alive}
 use Rattle.diagram_text.specs.Values.{id_text, tuple_text, truth_text, answer_text}
 use Rattle.diagram_text.specs.Legible.{IsSaid}
-use Rattle.diagram_text.proofs.TellPlaces.{keys_written}
+use Rattle.diagram_text.proofs.TellPlaces.{cell_written}
 use Rattle.diagram_text.proofs.TellValues.{Stops, IsWritten, differ, integer_begins, integers_tell, quoted_tell, ids_tell, joined_tell, tuples_tell}
 
 digits_begin : (digits r s : List ℕ) (b : ℕ) → 0 < length digits → AllDigits 10 digits → 57 < b → digits ++ r ≢ b ∷ s
@@ -107,13 +106,6 @@ ids_of_all schema entity (Truth t) h = absurd h
 ids_of_all schema entity (IdAnswer i) h = absurd h
 ids_of_all schema entity (Ids ids) h = (ids, refl, h)
 ids_of_all schema entity (Tuples tuples) h = absurd h
-
-found_written : (found : Option Property) (keys : List Key) → MatchOption found ⊥ (λ p. AreKeys p.keys keys) → All IsWritten keys
-found_written None keys h = absurd h
-found_written (Some p) keys h = keys_written p.keys keys h.1
-
-cell_written : (schema : Schema) (property : ℕ) (keys : List Key) → IsCell schema property keys → All IsWritten keys
-cell_written schema property keys h = found_written (property_at schema property) keys h.1
 
 tuples_of_entries : (schema : Schema) (property : ℕ) (a : Answer) → IsShapedAnswer schema (Entries property) a → (tuples : List (List Key)) × (a ≡ Tuples tuples) × All (All IsWritten) tuples
 tuples_of_entries schema property (Int n) h = absurd h

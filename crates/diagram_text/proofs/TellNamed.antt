@@ -5,8 +5,7 @@ use Rattle.cloud_base.specs.Values.{is_name_byte, IsName}
 use Rattle.cloud_base.specs.declared.key.Key.{Key}
 use Rattle.diagram_text.specs.Values.{keys_text}
 use Rattle.diagram_text.specs.Cells.{keyed_text, created_text}
-use Rattle.diagram_text.proofs.TellValues.{IsWritten, words_tell}
-use Rattle.diagram_text.proofs.TellValues.{differ, word_first}
+use Rattle.diagram_text.proofs.TellValues.{IsWritten, differ, word_first, words_tell}
 use Rattle.diagram_text.proofs.TellPlaces.{name_is_word, name_some, bracket, keyed_tell, IsNamed, IsKeyed, named_cell, named_property}
 
 -- a name, and a byte that stops it

@@ -1,11 +1,11 @@
 -- The texts of cells tell their properties and keys.
 use Rattle.std.proofs.Common.{◌≡◌, ℕ, ◌<◌, List, [], ◌∷◌, ◌++◌, length, drop, codes, Option, Some, None, inl, inr, refl, sym, ap, subst, ◌∙◌, arith, append_assoc}
-use Rattle.std.specs.Prelude.{⊤, All, IsTrue, slice_get}
+use Rattle.std.specs.Prelude.{⊤, All, IsTrue, slice_get, MatchOption}
 use Rattle.std.proofs.lemmas.Bool.{and_parts, and_from, or_left, false≢true}
 use Rattle.std.proofs.lemmas.Option.{slice_get_within, slice_get_cases, get_or_from_slice_get, MatchOption-at_some, MatchOption-at_none}
 use Rattle.std.proofs.lemmas.List.Elements.{All-nil, All-cons, All-get_or}
 use Rattle.cloud_base.specs.Values.{is_letter, is_digit, is_name_byte, all_name_bytes, IsName}
-use Rattle.cloud_base.specs.Shaped.{IsKey, MatchTypes, AreKeys, IsCell}
+use Rattle.cloud_base.specs.Shaped.{IsKey, MatchTypes, AreKeys, IsCell, property_at}
 use Rattle.cloud_base.specs.declared.key.Key.{Key}
 use Rattle.cloud_base.specs.declared.schema.Entity.{Entity}
 use Rattle.cloud_base.specs.declared.schema.KeyType.{KeyType}
@@ -43,6 +43,13 @@ keys_written [] [] match = All-nil IsWritten
 keys_written [] (key ∷ keys) match = absurd match
 keys_written (type ∷ types) [] match = absurd match
 keys_written (type ∷ types) (key ∷ keys) match = All-cons IsWritten key keys (key_written type key match.0) (keys_written types keys match.1)
+
+found_written : (found : Option Property) (keys : List Key) → MatchOption found ⊥ (λ p. AreKeys p.keys keys) → All IsWritten keys
+found_written None keys h = absurd h
+found_written (Some p) keys h = keys_written p.keys keys h.1
+
+pub cell_written : (schema : Schema) (property : ℕ) (keys : List Key) → IsCell schema property keys → All IsWritten keys
+cell_written schema property keys h = found_written (property_at schema property) keys h.1
 
 no_keys : (types : List KeyType) (keys : List Key) → types ≡ [] → MatchTypes types keys → keys ≡ []
 no_keys [] [] none match = refl
@@ -137,7 +144,7 @@ place_at schema names number property legible at =
       property = ap (property_of schema) at ∙ property_by_owner schema property.owner property.name;
       cell = λ keys. ap (cell_of schema keys) at ∙ cell_by_owner schema property.owner keys property.name;
       keyed = λ keys shaped. owner_keyed schema property.owner property.keys keys is.1 (keys_are keys shaped).1;
-      written = λ keys shaped. keys_written property.keys keys (keys_are keys shaped).1;
+      written = cell_written schema number;
     }
 
 pub place : (schema : Schema) (names : List (List ℕ)) (number : ℕ) → Legible schema names → number < length schema.properties → Place schema number
