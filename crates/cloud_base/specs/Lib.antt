@@ -3,6 +3,7 @@ pub mod Streams
 pub mod Alike
 pub mod Answer
 pub mod Dead
+pub mod Events
 pub mod Log
 pub mod Order
 pub mod PlainCell

@@ -2,34 +2,36 @@
 #![tactic(auto)]
 
 mod batch;
+mod end;
+mod in_memory;
 mod key;
 mod laws;
 mod memory;
-mod memory_ends;
 mod name;
-mod outside;
 mod schedule;
 mod schema;
 mod sequence;
-mod standard;
+mod std_streams;
+mod streams;
 mod text;
 mod update;
 
-pub use batch::{Batch, BatchList, End, Stretch, Tail};
+pub use batch::{Batch, BatchList, Stretch, Tail};
+pub use end::End;
+pub use in_memory::{MemSink, MemSource};
 pub use key::{Key, Keys, MOST_KEYS, Uid};
 pub use laws::{
     alike_answers, answers_list, ascending_lists, dead_by_chains, dead_by_members, dead_grows,
     derived_orders, get_depends_on, log_parts, plain_steps, total_orders,
 };
 pub use memory::Memory;
-pub use memory_ends::{MemSink, MemSource};
 pub use name::Name;
-pub use outside::{Failed, Sink, Source};
 pub use schedule::{Fate, Schedule, ScheduleItem};
 pub use schema::{
     CellType, Entity, EntityList, KeyType, KeyTypeList, Owner, Property, PropertyList, Schema,
 };
 pub use sequence::Sequence;
-pub use standard::{StdSink, StdSource};
-pub use text::{MOST_BYTES, Text, TextFault};
+pub use std_streams::{StdSink, StdSource};
+pub use streams::{Failed, Sink, Source};
+pub use text::{MOST_TEXT_BYTES, Text, TextFault};
 pub use update::{Answer, CellChange, Event, EventList, IdList, Query, TupleList, Update};

@@ -8,12 +8,12 @@ use std::marker::Model;
 use thiserror::Error;
 
 /// The most bytes of a text.
-pub const MOST_BYTES: usize = 128;
+pub const MOST_TEXT_BYTES: usize = 128;
 
 /// A text of at most 128 bytes, each from 0x20 to 0x7E.
 #[derive(Drop, PartialEq, Eq, PartialOrd, Ord)]
 pub struct Text {
-    bytes: ArrayVec<u8, MOST_BYTES>,
+    bytes: ArrayVec<u8, MOST_TEXT_BYTES>,
 }
 
 impl Model for Text {
@@ -49,12 +49,12 @@ fn is_printable(byte: u8) -> bool
 }
 
 impl Text {
-    /// The text of these bytes. It is `TooLong` exactly where they are more than `MOST_BYTES`, and else
+    /// The text of these bytes. It is `TooLong` exactly where they are more than `MOST_TEXT_BYTES`, and else
     /// `BadByte` at the first byte outside 0x20 to 0x7E. It takes no memory.
     pub fn new(bytes: &[u8]) -> Result<Text, TextFault>
         ensures { MatchResult result (λ text. (text ≡ bytes.now) × IsText bytes.now) (HasFault bytes.now) }
     {
-        if bytes.len() > MOST_BYTES {
+        if bytes.len() > MOST_TEXT_BYTES {
             return Err(TextFault::TooLong { len: bytes.len() });
         }
         let mut text = ArrayVec::new();
@@ -93,13 +93,13 @@ impl Text {
         Text { bytes }
     }
 
-    /// The first `MOST_BYTES` bytes of both in order. It takes no memory.
+    /// The first `MOST_TEXT_BYTES` bytes of both in order. It takes no memory.
     pub fn cat(&self, other: &Text) -> Text
         ensures { result ≡ cat_text self.now other.now }
     {
         let Text { mut bytes } = self.copied();
         for byte in other.bytes.as_slice() {
-            if bytes.len() < MOST_BYTES {
+            if bytes.len() < MOST_TEXT_BYTES {
                 bytes.push(*byte);
             }
         }

@@ -10,7 +10,7 @@ ghost use Rattle.cloud_drive.specs.Play.{yields_in};
 use crate::act::{act, start};
 use cloud_base::{CellType, End, Memory, Owner, Property, Schema, Sequence};
 use cloud_parse::{Act, Tree};
-use diagram_text::report;
+use step_text::report;
 use revision_diagram::StepList;
 use std::alloc::Global;
 use std::slice;

@@ -10,14 +10,14 @@ use Rattle.cloud_parse.specs.declared.fault.ParseFault.TheVariants as fault
 use Rattle.cloud_parse.specs.declared.fault.Which.TheVariants as which
 
 -- the most bytes of a text
-abbrev pub most_text : ℕ
-most_text = 262144
+abbrev pub most_source_bytes : ℕ
+most_source_bytes = 262144
 
 -- the tree of a text of no more bytes than that; else the first that is wrong; and want of memory, which may come at any time
 abbrev pub ParseAnswers : List ℕ → Result Form ParseFault → Type 0
-ParseAnswers text (Ok f) = (length text ≤ most_text) × HasForm text f
-ParseAnswers text (Err (fault.Limit which.Bytes)) = most_text < length text
-ParseAnswers text (Err (fault.Limit which.Form)) = (length text ≤ most_text) × ((f : Form) → HasForm text f → ⊥)
+ParseAnswers text (Ok f) = (length text ≤ most_source_bytes) × HasForm text f
+ParseAnswers text (Err (fault.Limit which.Bytes)) = most_source_bytes < length text
+ParseAnswers text (Err (fault.Limit which.Form)) = (length text ≤ most_source_bytes) × ((f : Form) → HasForm text f → ⊥)
 ParseAnswers text (Err fault.Memory) = Unit {0}
 
 -- the smallest source has its tree

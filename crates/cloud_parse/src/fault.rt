@@ -8,7 +8,7 @@ use thiserror::Error;
 /// A limit that a text can break.
 #[derive(Clone, Copy, Debug, PartialEq, Eq)]
 pub enum Which {
-    /// More than `MOST_TEXT` bytes.
+    /// More than `MOST_SOURCE_BYTES` bytes.
     Bytes,
     /// The text has no tree.
     Form,

@@ -9,7 +9,7 @@ mod token;
 mod tree;
 
 pub use fault::{ParseFault, Which};
-pub use source::{MOST_TEXT, one_tree, parse};
+pub use source::{MOST_SOURCE_BYTES, one_tree, parse};
 pub use terminal::{SYMBOLS, Terminal, WORDS};
 pub use token::{Token, tokens};
 pub use tree::{Act, Amount, MOST_GLOBALS, Operation, Tree};

@@ -1,7 +1,7 @@
 // The tree of a text.
 ghost use Rattle.std.specs.Prelude.{◌≡◌, ◌<◌, ◌≤◌, length, Err, IfOk, IfSome, MatchOption, MatchResult};
 ghost use Rattle.cloud_parse.specs.Form.{Form, HasForm};
-ghost use Rattle.cloud_parse.specs.Parse.{most_text, ParseAnswers};
+ghost use Rattle.cloud_parse.specs.Parse.{most_source_bytes, ParseAnswers};
 ghost use Rattle.cloud_parse.specs.declared.fault.ParseFault.TheVariants as fault;
 ghost use Rattle.cloud_parse.specs.declared.fault.Which.TheVariants as which;
 
@@ -13,7 +13,7 @@ use cloud_base::Memory;
 use std::alloc::Global;
 
 /// The most bytes of a source text.
-pub const MOST_TEXT: usize = 262_144;
+pub const MOST_SOURCE_BYTES: usize = 262_144;
 
 #[tactic(auto, using(crate::proofs::Complete::tokenless))]
 fn tree_of(alloc: Global, text: &[u8]) -> Result<Option<Tree>, Memory>
@@ -29,10 +29,10 @@ fn tree_of(alloc: Global, text: &[u8]) -> Result<Option<Tree>, Memory>
 #[tactic(auto, using(crate::proofs::Complete::one_form))]
 pub fn parse(alloc: Global, text: &[u8]) -> Result<Tree, ParseFault>
     ensures answer { ParseAnswers text.now result }
-    ensures bytes { most_text < length text.now → result ≡ Err (fault.Limit which.Bytes) }
-    ensures complete { (f : Form) → length text.now ≤ most_text → HasForm text.now f → MatchResult result (λ tree. tree ≡ f) (λ e. e ≡ fault.Memory) }
+    ensures bytes { most_source_bytes < length text.now → result ≡ Err (fault.Limit which.Bytes) }
+    ensures complete { (f : Form) → length text.now ≤ most_source_bytes → HasForm text.now f → MatchResult result (λ tree. tree ≡ f) (λ e. e ≡ fault.Memory) }
 {
-    if text.len() > MOST_TEXT {
+    if text.len() > MOST_SOURCE_BYTES {
         return Err(ParseFault::Limit(Which::Bytes));
     }
     match tree_of(alloc, text)? {

@@ -3,7 +3,7 @@ use Rattle.std.proofs.Common.{◌≡◌, ℕ, ◌<◌, ◌≤◌, List, [], ◌+
 use Rattle.std.specs.Prelude.{Option, Some, None, Err, ◌⊎◌}
 use Rattle.cloud_base.specs.Causes.{Rose}
 use Rattle.cloud_parse.specs.Form.{Form, IsForm, HasForm}
-use Rattle.cloud_parse.specs.Parse.{most_text, ParseAnswers}
+use Rattle.cloud_parse.specs.Parse.{most_source_bytes, ParseAnswers}
 use Rattle.cloud_parse.specs.declared.fault.ParseFault.TheVariants as fault
 use Rattle.cloud_parse.specs.declared.fault.Which.{Which}
 use Rattle.cloud_parse.specs.declared.fault.Which.TheVariants as which
@@ -27,20 +27,20 @@ pub is_form : (left : Option (List ℕ)) (f : Form) → LeftForm left f → IsFo
 is_form None f h = h
 is_form (Some text) f h = h.form
 
-pub left_done : (left after : Option (List ℕ)) (taken : List ℕ) (f : Form) → Parts left after taken → AtEnd after → length taken ≤ most_text → HasForm taken f → JudgesLeft status.Done left
+pub left_done : (left after : Option (List ℕ)) (taken : List ℕ) (f : Form) → Parts left after taken → AtEnd after → length taken ≤ most_source_bytes → HasForm taken f → JudgesLeft status.Done left
 left_done None after taken f p e few has = tt
 left_done (Some bytes) None taken f p e few has = absurd p
 left_done (Some bytes) (Some rest) taken f p e few has = subst (Judges status.Done) (whole bytes taken rest p e) (few, (f, has))
 
 -- a limit that what was taken breaks is one that the whole text breaks
-pub left_limit : (w : Which) (left after : Option (List ℕ)) (taken : List ℕ) → Parts left after taken → (length taken ≤ most_text → AtEnd after)
+pub left_limit : (w : Which) (left after : Option (List ℕ)) (taken : List ℕ) → Parts left after taken → (length taken ≤ most_source_bytes → AtEnd after)
     → ParseAnswers taken (Err (fault.Limit w)) → JudgesLeft (status.Limit w) left
 left_limit w None after taken p e said = tt
 left_limit w (Some bytes) None taken p e said = absurd p
 left_limit which.Bytes (Some bytes) (Some rest) taken p e said = omega (arith, said, ap length p, length-append taken rest)
 left_limit which.Form (Some bytes) (Some rest) taken p e said = subst (Judges (status.Limit which.Form)) (whole bytes taken rest p (e said.0)) said
 
-pub limit_ended : (w : Which) (before now : ℕ) (taken : List ℕ) → (length taken ≤ most_text → Rose before now) → (most_text < length taken → now ≡ before)
+pub limit_ended : (w : Which) (before now : ℕ) (taken : List ℕ) → (length taken ≤ most_source_bytes → Rose before now) → (most_source_bytes < length taken → now ≡ before)
     → ParseAnswers taken (Err (fault.Limit w)) → EndSeen (status.Limit w) before now
 limit_ended which.Bytes before now taken seen unseen said = unseen said
 limit_ended which.Form before now taken seen unseen said = seen said.0

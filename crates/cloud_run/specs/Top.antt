@@ -3,14 +3,14 @@ use Rattle.std.specs.Prelude.{◌≡◌, refl, ℕ, ◌+◌, ◌<◌, ◌≤◌,
 use Rattle.std.proofs.Common.{ap, lit≤, not-suc-le-zero}
 use Rattle.std.proofs.lemmas.Bool.{true≢false}
 use Rattle.cloud_base.specs.Causes.{Rose}
-use Rattle.cloud_base.specs.declared.batch.End.{End}
+use Rattle.cloud_base.specs.declared.end.End.{End}
 use Rattle.cloud_parse.specs.Form.{Form, IsForm, HasForm}
-use Rattle.cloud_parse.specs.Parse.{most_text}
+use Rattle.cloud_parse.specs.Parse.{most_source_bytes}
 use Rattle.cloud_parse.specs.Tokens.{tokens_behind, lexeme_at}
 use Rattle.cloud_parse.specs.declared.fault.Which.TheVariants as which
 use Rattle.revision_diagram.specs.declared.step.Step.{Step}
-use Rattle.diagram_text.specs.Legible.{Told}
-use Rattle.diagram_text.specs.Text.{report_text}
+use Rattle.step_text.specs.Legible.{Told}
+use Rattle.step_text.specs.Text.{report_text}
 use Rattle.one_client.specs.Headline.{Headline}
 use Rattle.one_client.specs.Program.{schema_of, trace}
 use Rattle.one_client.specs.Steps.{report_of}
@@ -24,17 +24,17 @@ play_words = codes "play" ∷ []
 
 -- the most bytes that are read: one more than a text may have
 abbrev pub most_read : ℕ
-most_read = most_text + 1
+most_read = most_source_bytes + 1
 
 -- What each status says of the whole text that the source had left: it isn't too long and has a tree; it is too long;
 -- it isn't too long and has no tree.
 abbrev pub Judges : Status → List ℕ → Type 0
-Judges status.Done text = (length text ≤ most_text) × ((f : Form) × HasForm text f)
+Judges status.Done text = (length text ≤ most_source_bytes) × ((f : Form) × HasForm text f)
 Judges status.Words text = Unit {0}
 Judges status.ReadFault text = Unit {0}
-Judges status.WriteFault text = (length text ≤ most_text) × ((f : Form) × HasForm text f)
-Judges (status.Limit which.Bytes) text = most_text < length text
-Judges (status.Limit which.Form) text = (length text ≤ most_text) × ((f : Form) → HasForm text f → ⊥)
+Judges status.WriteFault text = (length text ≤ most_source_bytes) × ((f : Form) × HasForm text f)
+Judges (status.Limit which.Bytes) text = most_source_bytes < length text
+Judges (status.Limit which.Form) text = (length text ≤ most_source_bytes) × ((f : Form) → HasForm text f → ⊥)
 Judges status.Memory text = Unit {0}
 
 -- the same, where the source tells what it has left
@@ -78,7 +78,7 @@ WritesLawful left held now =
 -- the source tells its text, and that is short enough and has a tree
 abbrev pub Accepted : Option (List ℕ) → Type 0
 Accepted None = ⊥
-Accepted (Some text) = (length text ≤ most_text) × ((f : Form) × HasForm text f)
+Accepted (Some text) = (length text ≤ most_source_bytes) × ((f : Form) × HasForm text f)
 
 -- a refusal that comes before anything is written, but for the words
 abbrev pub IsReadRefusal : Status → Type 0

@@ -1,19 +1,19 @@
 // Reading a whole source and writing a whole text.
 ghost use Rattle.std.specs.Prelude.{◌≡◌, ℕ, List, ◌<◌, ◌≤◌, ◌+◌, false, true, Option, length, OnOk, OnErr, IfOk, IsErrOf, vec_len};
 ghost use Rattle.cloud_base.specs.Causes.{Rose};
-ghost use Rattle.cloud_parse.specs.Parse.{most_text};
+ghost use Rattle.cloud_parse.specs.Parse.{most_source_bytes};
 ghost use Rattle.cloud_run.specs.Flows.{HandedOut, Parts, AtEnd, Got, GotPart};
 ghost use Rattle.cloud_run.specs.Top.{most_read};
 
 use cloud_base::{Sink, Source};
-use cloud_parse::MOST_TEXT;
+use cloud_parse::MOST_SOURCE_BYTES;
 use std::alloc::Global;
 
 // The most bytes of one read.
 const PIECE: usize = 1024;
 
 // The most bytes that are read: one more than a text may have.
-const MOST_READ: usize = MOST_TEXT + 1;
+const MOST_READ: usize = MOST_SOURCE_BYTES + 1;
 
 // Why a source isn't read whole.
 #[derive(Clone, Copy, Debug, PartialEq, Eq, Drop)]
@@ -62,9 +62,9 @@ pub(crate) fn take_all<S: Source>(alloc: Global, source: &mut S) -> Result<Vec<u
     ensures unfailed { (IsErrOf result Unread.Failed → ⊥) → S.faults source.new ≡ S.faults source.old }
     ensures handed { HandedOut most_read (S.left source.old) (S.left source.new) }
     ensures parts { IfOk result (λ taken. Parts (S.left source.old) (S.left source.new) taken.items) }
-    ensures end { IfOk result (λ taken. vec_len taken ≤ most_text → AtEnd (S.left source.new)) }
-    ensures seen { IfOk result (λ taken. vec_len taken ≤ most_text → Rose (S.ends source.old) (S.ends source.new)) }
-    ensures unseen { IfOk result (λ taken. most_text < vec_len taken → S.ends source.new ≡ S.ends source.old) }
+    ensures end { IfOk result (λ taken. vec_len taken ≤ most_source_bytes → AtEnd (S.left source.new)) }
+    ensures seen { IfOk result (λ taken. vec_len taken ≤ most_source_bytes → Rose (S.ends source.old) (S.ends source.new)) }
+    ensures unseen { IfOk result (λ taken. most_source_bytes < vec_len taken → S.ends source.new ≡ S.ends source.old) }
     ensures later { S.ends source.old ≤ S.ends source.new }
     ensures refused { OnErr result (S.ends source.new ≡ S.ends source.old) }
 {

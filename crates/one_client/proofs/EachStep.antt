@@ -14,9 +14,9 @@ use Rattle.cloud_base.specs.declared.update.Event.TheVariants.{Do as DoEvent, As
 use Rattle.revision_diagram.specs.declared.step.Step.{Step}
 use Rattle.revision_diagram.specs.declared.step.Step.TheVariants.{Fork, Join, Do, Ask, Say, Mark}
 use Rattle.revision_diagram.specs.Diagram.{Diagram, diagram, after, acts_on, is_of, live, owner, past, path, fork, fork_length, revisions}
-use Rattle.revision_diagram.specs.Lawful.{lawful, Lawful}
+use Rattle.revision_diagram.specs.Lawful.{is_lawful, Lawful}
 use Rattle.revision_diagram.specs.Right.{log, updates_at, Right, AnsweredRight}
-use Rattle.revision_diagram.specs.Once.{joins_apart, StandsOnce, Once, StandOnce}
+use Rattle.revision_diagram.specs.Once.{joins_apart, StandsOnce, Once, AllStandOnce}
 use Rattle.revision_diagram.specs.Story.{is_act_of, is_told, story, event_of, events, is_in_line, has_seen, LineLaw}
 use Rattle.revision_diagram.specs.Meeting.{below_server, is_client, is_at_or_above, is_mark, is_mark_at, has_marked, is_placed, Placed, is_at_mark, AtMarks, is_flush, flushes}
 use Rattle.one_client.proofs.Laws.{Laws}
@@ -35,7 +35,7 @@ pub record Good (schema : Schema) (front : List Step) (told : List Event) : Type
 
 -- what the laws ask of one step more, which tells these events
 pub record Fits (schema : Schema) (front : List Step) (s : Step) (added : List Event) : Type 0 where
-  pub is_lawful : IsTrue (lawful front s)
+  pub is_next_lawful : IsTrue (is_lawful front s)
   pub is_right : Right (answer schema) front s
   pub apart : IsTrue (joins_apart front s)
   pub in_line : IsTrue (is_in_line 0 front (acts_on s))
@@ -46,9 +46,9 @@ pub record Fits (schema : Schema) (front : List Step) (s : Step) (added : List E
 
 good_more : (laws : Laws) (schema : Schema) (front : List Step) (s : Step) (told added : List Event) → Good schema front told → Fits schema front s added → Good schema (front ++ s ∷ []) (told ++ added)
 good_more laws schema front s told added g h = record {
-  lawful = (laws.lawful_more front s).1 (g.lawful, h.is_lawful);
+  lawful = (laws.lawful_more front s).1 (g.lawful, h.is_next_lawful);
   right = (laws.right_more (answer schema) front s).1 (g.right, h.is_right);
-  once = laws.once_more front s g.once h.is_lawful h.apart;
+  once = laws.once_more front s g.once h.is_next_lawful h.apart;
   line = (laws.line_more front s 0).1 (g.line, h.in_line);
   placed = (laws.placed_more below_server front s).1 (g.placed, h.is_placed);
   at_marks = (laws.at_marks_more below_server front s).1 (g.at_marks, h.at_mark);
@@ -89,7 +89,7 @@ told_own front s e = ap (is_of 0) e
 -- a Do, Ask, Say or yield on the standing revision fits
 fits_Do : (schema : Schema) (front : List Step) (s n : ℕ) (updates : List Update) (told : List Event) (u : Update) → Now schema front s n updates told → Fits schema front (Do s u) (DoEvent u ∷ [])
 fits_Do schema front s n updates told u now = record {
-  is_lawful = now.standing.mine.live;
+  is_next_lawful = now.standing.mine.live;
   is_right = tt;
   apart = refl;
   in_line = keeps_line schema front s n updates told now;
@@ -101,7 +101,7 @@ fits_Do schema front s n updates told u now = record {
 
 fits_Ask : (schema : Schema) (front : List Step) (s n : ℕ) (updates : List Update) (told : List Event) (q : Query) → Now schema front s n updates told → Fits schema front (Ask s q (answer schema updates q)) (AskEvent q (answer schema updates q) ∷ [])
 fits_Ask schema front s n updates told q now = record {
-  is_lawful = now.standing.mine.live;
+  is_next_lawful = now.standing.mine.live;
   is_right = ap (λ (l : List Update). answer schema l q) (sym now.logged);
   apart = refl;
   in_line = keeps_line schema front s n updates told now;
@@ -113,7 +113,7 @@ fits_Ask schema front s n updates told q now = record {
 
 fits_Say : (schema : Schema) (front : List Step) (s n : ℕ) (updates : List Update) (told : List Event) (v : Answer) → Now schema front s n updates told → Fits schema front (Say s v) (SayEvent v ∷ [])
 fits_Say schema front s n updates told v now = record {
-  is_lawful = now.standing.mine.live;
+  is_next_lawful = now.standing.mine.live;
   is_right = tt;
   apart = refl;
   in_line = keeps_line schema front s n updates told now;
@@ -125,7 +125,7 @@ fits_Say schema front s n updates told v now = record {
 
 fits_Mark : (schema : Schema) (front : List Step) (s n : ℕ) (updates : List Update) (told : List Event) → Now schema front s n updates told → Fits schema front (Mark s false) (YieldEvent ∷ [])
 fits_Mark schema front s n updates told now = record {
-  is_lawful = now.standing.mine.live;
+  is_next_lawful = now.standing.mine.live;
   is_right = tt;
   apart = refl;
   in_line = keeps_line schema front s n updates told now;
@@ -226,11 +226,11 @@ log_same front r s e = ap (updates_at front) e
 
 stands_once : (laws : Laws) (schema : Schema) (front : List Step) (s n : ℕ) (updates : List Update) (told : List Event) → Now schema front s n updates told → StandsOnce front s
 stands_once laws schema front s n updates told now =
-    let whole : StandOnce front = subst StandOnce (take-length front) ((laws.once_at front).0 now.good.once (length front)) in
+    let whole : AllStandOnce front = subst AllStandOnce (take-length front) ((laws.once_at front).0 now.good.once (length front)) in
     (whole s now.standing.mine.live).0
 
 -- the five parts of a lawful join
-lawful_join : (front : List Step) (r s : ℕ) → live front r ≡ true → live front s ≡ true → s ≢ 0 → s ≢ r → past front r (fork front s) ≡ true → lawful front (Join r s) ≡ true
+lawful_join : (front : List Step) (r s : ℕ) → live front r ≡ true → live front s ≡ true → s ≢ 0 → s ≢ r → past front r (fork front s) ≡ true → is_lawful front (Join r s) ≡ true
 lawful_join front r s a b c d e =
     and_from (live front r && live front s && not (s == 0) && not (s == r)) (past front r (fork front s))
     (and_from (live front r && live front s && not (s == 0)) (not (s == r))
@@ -251,7 +251,7 @@ fits_pull : (laws : Laws) (schema : Schema) (front : List Step) (s r n : ℕ) (u
 fits_pull laws schema front s r n updates told now mark k =
     let above : 0 < s = now.standing.mine.above in
     record {
-      is_lawful = lawful_join front r s k.mine.live now.standing.mine.live (λ e. omega arith) k.other k.has;
+      is_next_lawful = lawful_join front r s k.mine.live now.standing.mine.live (λ e. omega arith) k.other k.has;
       is_right = tt;
       apart = laws.apart front r s (stands_once laws schema front s n updates told now) (k.path ∙ base_path (diagram front) s (last_place front) now.standing);
       in_line = refl;
@@ -285,7 +285,7 @@ pull_step laws schema front s r n updates told h k =
 
 fits_fork : (schema : Schema) (front : List Step) (s n : ℕ) (updates : List Update) (told : List Event) → MarkedNow schema front s n updates told → Fits schema front (Fork s 0) []
 fits_fork schema front s n updates told h = record {
-  is_lawful = h.now.standing.mine.live;
+  is_next_lawful = h.now.standing.mine.live;
   is_right = tt;
   apart = refl;
   in_line = refl;
@@ -325,7 +325,7 @@ fits_push : (laws : Laws) (schema : Schema) (front : List Step) (s n : ℕ) (upd
 fits_push laws schema front s n updates told h =
     let above : 0 < s = h.now.standing.mine.above in
     record {
-      is_lawful = lawful_join front 0 s h.now.standing.server h.now.standing.mine.live (λ e. omega arith) (λ e. omega arith) h.now.standing.forked;
+      is_next_lawful = lawful_join front 0 s h.now.standing.server h.now.standing.mine.live (λ e. omega arith) (λ e. omega arith) h.now.standing.forked;
       is_right = tt;
       apart = laws.apart front 0 s (stands_once laws schema front s n updates told h.now) (base_path (diagram front) s (last_place front) h.now.standing);
       in_line = refl;
@@ -353,7 +353,7 @@ push_step laws schema front s n updates told h =
 
 fits_serve : (laws : Laws) (schema : Schema) (front : List Step) (s n : ℕ) (updates : List Update) (told : List Event) → Now schema front s n updates told → Fits schema front (Fork 0 0) []
 fits_serve laws schema front s n updates told now = record {
-  is_lawful = now.standing.server;
+  is_next_lawful = now.standing.server;
   is_right = tt;
   apart = refl;
   in_line = refl;

@@ -8,9 +8,9 @@ use Rattle.cloud_base.specs.declared.update.Answer.{Answer}
 use Rattle.revision_diagram.specs.declared.step.Step.{Step}
 use Rattle.revision_diagram.specs.declared.step.Step.TheVariants.{Fork, Join, Do, Ask, Say, Mark}
 use Rattle.revision_diagram.specs.Diagram.{diagram, after, put, acts_on, owner, path, fork_length}
-use Rattle.revision_diagram.specs.Lawful.{lawful, Lawful}
+use Rattle.revision_diagram.specs.Lawful.{is_lawful, Lawful}
 use Rattle.revision_diagram.specs.Right.{log, Right, AnsweredRight}
-use Rattle.revision_diagram.specs.Once.{joins_apart, StandsOnce, StandOnce, Once}
+use Rattle.revision_diagram.specs.Once.{joins_apart, StandsOnce, AllStandOnce, Once}
 use Rattle.revision_diagram.specs.Story.{is_told, story, event_of, events, is_in_line, LineLaw}
 use Rattle.revision_diagram.specs.Meeting.{Tree, is_placed, Placed, is_at_mark, AtMarks, is_flush, flushes, FlushLaw}
 
@@ -24,10 +24,10 @@ pub record Laws : Type 0 where
   pub log_ask : (steps : List Step) (r : ℕ) (q : Query) (a : Answer) (x : ℕ) → log (steps ++ Ask r q a ∷ []) x ≡ log steps x
   pub log_say : (steps : List Step) (r : ℕ) (v : Answer) (x : ℕ) → log (steps ++ Say r v ∷ []) x ≡ log steps x
   pub log_mark : (steps : List Step) (r : ℕ) (flush : Bool) (x : ℕ) → log (steps ++ Mark r flush ∷ []) x ≡ log steps x
-  pub lawful_more : (steps : List Step) (s : Step) → Lawful (steps ++ s ∷ []) ↔ (Lawful steps × IsTrue (lawful steps s))
+  pub lawful_more : (steps : List Step) (s : Step) → Lawful (steps ++ s ∷ []) ↔ (Lawful steps × IsTrue (is_lawful steps s))
   pub right_more : (answers : List Update → Query → Answer) (steps : List Step) (s : Step) → AnsweredRight answers (steps ++ s ∷ []) ↔ (AnsweredRight answers steps × Right answers steps s)
-  pub once_more : (steps : List Step) (s : Step) → Once steps → IsTrue (lawful steps s) → IsTrue (joins_apart steps s) → Once (steps ++ s ∷ [])
-  pub once_at : (steps : List Step) → Once steps ↔ ((n : ℕ) → StandOnce (take n steps))
+  pub once_more : (steps : List Step) (s : Step) → Once steps → IsTrue (is_lawful steps s) → IsTrue (joins_apart steps s) → Once (steps ++ s ∷ [])
+  pub once_at : (steps : List Step) → Once steps ↔ ((n : ℕ) → AllStandOnce (take n steps))
   pub apart : (steps : List Step) (r s : ℕ) → StandsOnce steps s → path steps r ≡ take (fork_length steps s) (path steps s) → IsTrue (joins_apart steps (Join r s))
   pub story_more : (steps : List Step) (s : Step) (c : ℕ) → story (steps ++ s ∷ []) c ≡ story steps c ++ cond (is_told c steps s) (length steps ∷ []) []
   pub events_more : (steps : List Step) (s : Step) (c : ℕ) → events (steps ++ s ∷ []) c ≡ events steps c ++ cond (is_told c steps s) (cons_option (event_of (Some s)) []) []

@@ -13,7 +13,7 @@ use Rattle.cloud_base.specs.Log.{of_cell}
 use Rattle.cloud_base.specs.PlainCell.{plain_int, plain_value}
 use Rattle.cloud_base.specs.Shaped.{AreKeys, IsCell, IsChange, IsValue, IsShaped, IsShapedAnswer, cell_type}
 use Rattle.cloud_base.specs.Answer.{answer}
-use Rattle.cloud_base.specs.declared.batch.End.{End}
+use Rattle.cloud_base.specs.declared.end.End.{End}
 use Rattle.cloud_base.specs.declared.schema.CellType.TheVariants.{Int as IntCell}
 use Rattle.cloud_base.specs.declared.schema.Property.{Property}
 use Rattle.cloud_base.specs.declared.schema.Schema.{Schema}
@@ -28,8 +28,8 @@ use Rattle.cloud_parse.specs.declared.tree.Operation.TheVariants.{Add, Set}
 use Rattle.cloud_parse.specs.Form.{Form, IsForm, ActFits, AllDifferent, place_of, amount_value}
 use Rattle.revision_diagram.specs.declared.step.Step.{Step}
 use Rattle.revision_diagram.specs.declared.step.Step.TheVariants.{Fork}
-use Rattle.diagram_text.specs.Cells.{property_of}
-use Rattle.diagram_text.specs.Legible.{Legible, IsProperty, IsSaid, IsStep, IsEnd, Told}
+use Rattle.step_text.specs.Cells.{property_of}
+use Rattle.step_text.specs.Legible.{Legible, IsProperty, IsSaid, IsStep, IsEnd, Told}
 use Rattle.one_client.specs.Program.{schema_of, global_property, budget, cost, begun, end_from, end_of, query_of, change_of, update_of}
 use Rattle.one_client.specs.Steps.{Run, first_run, steps_from, steps_of, goes_on, pull, yield_steps, after_yield, after_update}
 

@@ -6,8 +6,8 @@ use Rattle.std.proofs.lemmas.Bool.{true≢false, false≢true}
 use Rattle.cloud_base.specs.Answer.{answer}
 use Rattle.cloud_base.specs.Dead.{is_dead}
 use Rattle.cloud_base.specs.PlainCell.{plain_value, plain_int, is_default}
-use Rattle.cloud_base.specs.declared.batch.End.{End}
-use Rattle.cloud_base.specs.declared.batch.End.TheVariants.{Done}
+use Rattle.cloud_base.specs.declared.end.End.{End}
+use Rattle.cloud_base.specs.declared.end.End.TheVariants.{Done}
 use Rattle.cloud_base.specs.declared.schema.Schema.{Schema}
 use Rattle.cloud_base.specs.declared.update.Answer.{Answer}
 use Rattle.cloud_base.specs.declared.update.Answer.TheVariants.{Int}

@@ -1,7 +1,7 @@
 -- What a program of one client over integer globals means: its schema, its budget and its trace.
 use Rattle.std.specs.Prelude.{◌≡◌, refl, ℕ, zero, suc, ◌-◌, true, List, [], ◌∷◌, map, pos, negsuc}
-use Rattle.cloud_base.specs.declared.batch.End.{End}
-use Rattle.cloud_base.specs.declared.batch.End.TheVariants.{Done, Spent}
+use Rattle.cloud_base.specs.declared.end.End.{End}
+use Rattle.cloud_base.specs.declared.end.End.TheVariants.{Done, Spent}
 use Rattle.cloud_base.specs.declared.schema.CellType.TheVariants.{Int as IntCell}
 use Rattle.cloud_base.specs.declared.schema.Owner.TheVariants.{Global}
 use Rattle.cloud_base.specs.declared.schema.Property.{Property}

@@ -15,7 +15,7 @@ use Rattle.cloud_parse.specs.declared.tree.Operation.TheVariants.{Add}
 use Rattle.cloud_parse.specs.Form.{Form}
 use Rattle.revision_diagram.specs.declared.step.Step.{Step}
 use Rattle.revision_diagram.specs.declared.step.Step.TheVariants.{Fork, Join, Do, Ask, Say, Mark}
-use Rattle.diagram_text.specs.Text.{report_text}
+use Rattle.step_text.specs.Text.{report_text}
 use Rattle.one_client.specs.Program.{schema_of, update_of, query_of, budget, begun, end_of}
 
 -- where the run is: the client's standing revision, the one received for it if there is one, the next free

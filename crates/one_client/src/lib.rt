@@ -3,13 +3,13 @@
 
 ghost use Rattle.std.specs.Prelude.{[], ◌∷◌};
 ghost use Rattle.cloud_parse.specs.Form.{Form, IsForm};
-ghost use Rattle.diagram_text.specs.Legible.{Told};
+ghost use Rattle.step_text.specs.Legible.{Told};
 ghost use Rattle.one_client.specs.Headline.{Headline};
 ghost use Rattle.one_client.specs.Program.{schema_of, trace, end_of};
 ghost use Rattle.one_client.specs.Steps.{steps_of};
 
 use cloud_base::plain_steps;
-use diagram_text::reports_tell_steps;
+use step_text::reports_tell_steps;
 use revision_diagram::{
     ask_draws, do_draws, fork_draws, join_draws, lawful_step, line_step, mark_draws, meeting_step,
     once_step, revisions_are_there, right_step, say_draws, step_draws, story_step,

@@ -9,7 +9,7 @@ use Rattle.revision_diagram.specs.declared.step.Step.{Step}
 use Rattle.revision_diagram.specs.declared.step.Step.TheVariants.{Fork, Join, Do, Ask, Say, Mark}
 use Rattle.revision_diagram.specs.Right.{log, Right, AnsweredRight}
 use Rattle.revision_diagram.specs.Diagram.{Diagram, diagram, EachFrom, EachStep, PrefixesFrom}
-use Rattle.revision_diagram.specs.Once.{times_on, is_do, follows_seen, StandOnce, Once}
+use Rattle.revision_diagram.specs.Once.{times_on, is_do, follows_seen, AllStandOnce, Once}
 use Rattle.revision_diagram.proofs.Steps.{diagram-places}
 use Rattle.revision_diagram.proofs.Range.{InRange, in_range}
 
@@ -66,7 +66,7 @@ or_not_passes : (a b : Bool) → a ≡ true → or_not a b ≡ true → b ≡ tr
 or_not_passes true b e h = h
 or_not_passes false b e h = absurd (false≢true e)
 
-pub drawn_once_passes : (steps : List Step) → IsTrue (drawn_once steps (diagram steps)) → StandOnce steps
+pub drawn_once_passes : (steps : List Step) → IsTrue (drawn_once steps (diagram steps)) → AllStandOnce steps
 drawn_once_passes steps h r is_live =
     let d : Diagram = diagram steps in
     let range : InRange d = in_range steps in
@@ -86,7 +86,7 @@ drawn_once_passes steps h r is_live =
     ]
 
 pub once_passes : (steps : List Step) → IsTrue (prefixes_from (λ f. drawn_once f (diagram f)) [] steps) → Once steps
-once_passes steps h = prefixes_pass StandOnce (λ f. drawn_once f (diagram f)) drawn_once_passes [] steps h
+once_passes steps h = prefixes_pass AllStandOnce (λ f. drawn_once f (diagram f)) drawn_once_passes [] steps h
 
 -- the answers of the Ask steps
 abbrev pub answers_given : List Step → List Answer

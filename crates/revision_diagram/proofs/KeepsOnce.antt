@@ -7,8 +7,8 @@ use Rattle.cloud_base.specs.declared.update.Update.{Update}
 use Rattle.revision_diagram.specs.declared.step.Step.{Step}
 use Rattle.revision_diagram.specs.declared.step.Step.TheVariants.{Fork, Join, Do, Ask, Say, Mark}
 use Rattle.revision_diagram.specs.Diagram.{diagram, put, with_place, with_past, acts_on, revisions, live, past, path, fork, fork_length}
-use Rattle.revision_diagram.specs.Lawful.{lawful}
-use Rattle.revision_diagram.specs.Once.{stands_on, does_on, is_some_revision, is_do, seen_at, times_on, follows_seen, joins_apart, StandsOnce, AfterSeen, StandOnce, Once}
+use Rattle.revision_diagram.specs.Lawful.{is_lawful}
+use Rattle.revision_diagram.specs.Once.{stands_on, does_on, is_some_revision, is_do, seen_at, times_on, follows_seen, joins_apart, StandsOnce, AfterSeen, AllStandOnce, Once}
 use Rattle.revision_diagram.proofs.Steps.{diagram-places, EachPrefix-step, PrefixesFrom-whole}
 use Rattle.revision_diagram.proofs.Range.{InRange, in_range}
 use Rattle.revision_diagram.proofs.Draws.{live-Fork, path-Fork, past-Fork, live-Join, path-Join, past-Join, live-act, past-act, path-Do, path-Ask, path-Say, path-Mark}
@@ -61,7 +61,7 @@ good_done steps r u g =
       follows = follows-append longer [] (path steps r) (length steps ∷ []) g.follows (and_from (list_all (stands_on (path steps r)) (seen_at longer (length steps))) true seen refl);
     }
 
-good_of : (steps : List Step) (r : ℕ) → StandOnce steps → live steps r ≡ true → Good steps (path steps r) (past steps r)
+good_of : (steps : List Step) (r : ℕ) → AllStandOnce steps → live steps r ≡ true → Good steps (path steps r) (past steps r)
 good_of steps r h l = let both = h r l in record { marks = both.0; follows = both.1 }
 
 stands_by : (steps : List Step) (r : ℕ) → Good steps (path steps r) (past steps r) → StandsOnce steps r × AfterSeen steps r
@@ -71,10 +71,10 @@ not_do-last : (steps : List Step) (s : Step) → is_some_revision (does_on (Some
 not_do-last steps s e = ap (λ (o : Option Step). is_some_revision (does_on o)) (slice_get-last steps s) ∙ e
 
 -- a revision with the path and the past that it had
-untouched : (steps : List Step) (s : Step) (x : ℕ) → StandOnce steps → live steps x ≡ true → path (steps ++ s ∷ []) x ≡ path steps x → ((i : ℕ) → past (steps ++ s ∷ []) x i ≡ past steps x i) → Good (steps ++ s ∷ []) (path (steps ++ s ∷ []) x) (past (steps ++ s ∷ []) x)
+untouched : (steps : List Step) (s : Step) (x : ℕ) → AllStandOnce steps → live steps x ≡ true → path (steps ++ s ∷ []) x ≡ path steps x → ((i : ℕ) → past (steps ++ s ∷ []) x i ≡ past steps x i) → Good (steps ++ s ∷ []) (path (steps ++ s ∷ []) x) (past (steps ++ s ∷ []) x)
 untouched steps s x h l e f = good_by (steps ++ s ∷ []) (path (steps ++ s ∷ []) x) (path steps x) (past (steps ++ s ∷ []) x) (past steps x) e f (good_longer steps s x (good_of steps x h l))
 
-once_Fork : (steps : List Step) (r c : ℕ) → StandOnce steps → live steps r ≡ true → StandOnce (steps ++ Fork r c ∷ [])
+once_Fork : (steps : List Step) (r c : ℕ) → AllStandOnce steps → live steps r ≡ true → AllStandOnce (steps ++ Fork r c ∷ [])
 once_Fork steps r c h is_live x l =
     let step : Step = Fork r c in
     let longer : List Step = steps ++ Fork r c ∷ [] in
@@ -100,7 +100,7 @@ once_Fork steps r c h is_live x l =
           ]
     ])
 
-once_act : (steps : List Step) (s : Step) (r : ℕ) → acts_on s ≡ Some r → is_some_revision (does_on (Some s)) ≡ false → ((x : ℕ) → path (steps ++ s ∷ []) x ≡ path steps x) → StandOnce steps → StandOnce (steps ++ s ∷ [])
+once_act : (steps : List Step) (s : Step) (r : ℕ) → acts_on s ≡ Some r → is_some_revision (does_on (Some s)) ≡ false → ((x : ℕ) → path (steps ++ s ∷ []) x ≡ path steps x) → AllStandOnce steps → AllStandOnce (steps ++ s ∷ [])
 once_act steps s r acts other_kind e h x l =
     let longer : List Step = steps ++ s ∷ [] in
     let stepped : ℕ → Bool = with_place (past steps r) (length steps) in
@@ -112,7 +112,7 @@ once_act steps s r acts other_kind e h x l =
       | inr other ↦ untouched steps s x h was (e x) (λ i. past-act steps s r x i acts ∙ ap (λ (p : ℕ → Bool). p i) (put-else r x stepped (past steps) other))
     ])
 
-once_Do : (steps : List Step) (r : ℕ) (u : Update) → StandOnce steps → StandOnce (steps ++ Do r u ∷ [])
+once_Do : (steps : List Step) (r : ℕ) (u : Update) → AllStandOnce steps → AllStandOnce (steps ++ Do r u ∷ [])
 once_Do steps r u h x l =
     let step : Step = Do r u in
     let longer : List Step = steps ++ Do r u ∷ [] in
@@ -129,7 +129,7 @@ once_Do steps r u h x l =
           (λ i. past-act steps step r x i refl ∙ ap (λ (p : ℕ → Bool). p i) (put-else r x stepped (past steps) other))
     ])
 
-once_Join : (steps : List Step) (r s : ℕ) → StandOnce steps → live steps s ≡ true → joins_apart steps (Join r s) ≡ true → StandOnce (steps ++ Join r s ∷ [])
+once_Join : (steps : List Step) (r s : ℕ) → AllStandOnce steps → live steps s ≡ true → joins_apart steps (Join r s) ≡ true → AllStandOnce (steps ++ Join r s ∷ [])
 once_Join steps r s h is_live apart x l =
     let step : Step = Join r s in
     let longer : List Step = steps ++ Join r s ∷ [] in
@@ -157,18 +157,18 @@ once_Join steps r s h is_live apart x l =
           ])
     ]
 
-pub StandOnce-step : (steps : List Step) (s : Step) → StandOnce steps → IsTrue (lawful steps s) → IsTrue (joins_apart steps s) → StandOnce (steps ++ s ∷ [])
-StandOnce-step steps (Fork r c) h ok apart = once_Fork steps r c h ok
-StandOnce-step steps (Join r s) h ok apart =
+pub AllStandOnce-step : (steps : List Step) (s : Step) → AllStandOnce steps → IsTrue (is_lawful steps s) → IsTrue (joins_apart steps s) → AllStandOnce (steps ++ s ∷ [])
+AllStandOnce-step steps (Fork r c) h ok apart = once_Fork steps r c h ok
+AllStandOnce-step steps (Join r s) h ok apart =
     let names : (live steps r ≡ true) × (live steps s ≡ true) = and_parts (live steps r) (live steps s) (and_parts (live steps r && live steps s) (not (s == 0)) (and_parts (live steps r && live steps s && not (s == 0)) (not (s == r)) (and_parts (live steps r && live steps s && not (s == 0) && not (s == r)) (past steps r (fork steps s)) ok).0).0).0 in
     once_Join steps r s h names.1 apart
-StandOnce-step steps (Do r u) h ok apart = once_Do steps r u h
-StandOnce-step steps (Ask r q a) h ok apart = once_act steps (Ask r q a) r refl refl (path-Ask steps r q a) h
-StandOnce-step steps (Say r v) h ok apart = once_act steps (Say r v) r refl refl (path-Say steps r v) h
-StandOnce-step steps (Mark r flush) h ok apart = once_act steps (Mark r flush) r refl refl (path-Mark steps r flush) h
+AllStandOnce-step steps (Do r u) h ok apart = once_Do steps r u h
+AllStandOnce-step steps (Ask r q a) h ok apart = once_act steps (Ask r q a) r refl refl (path-Ask steps r q a) h
+AllStandOnce-step steps (Say r v) h ok apart = once_act steps (Say r v) r refl refl (path-Say steps r v) h
+AllStandOnce-step steps (Mark r flush) h ok apart = once_act steps (Mark r flush) r refl refl (path-Mark steps r flush) h
 
-pub Once-whole : (steps : List Step) → Once steps → StandOnce steps
-Once-whole steps h = PrefixesFrom-whole StandOnce [] steps h
+pub Once-whole : (steps : List Step) → Once steps → AllStandOnce steps
+Once-whole steps h = PrefixesFrom-whole AllStandOnce [] steps h
 
-pub Once-step : (steps : List Step) (s : Step) → Once steps → IsTrue (lawful steps s) → IsTrue (joins_apart steps s) → Once (steps ++ s ∷ [])
-Once-step steps s h ok apart = EachPrefix-step StandOnce steps s h (StandOnce-step steps s (Once-whole steps h) ok apart)
+pub Once-step : (steps : List Step) (s : Step) → Once steps → IsTrue (is_lawful steps s) → IsTrue (joins_apart steps s) → Once (steps ++ s ∷ [])
+Once-step steps s h ok apart = EachPrefix-step AllStandOnce steps s h (AllStandOnce-step steps s (Once-whole steps h) ok apart)

@@ -7,7 +7,7 @@ use Rattle.std.proofs.lemmas.List.{take-append-drop}
 use Rattle.revision_diagram.specs.declared.step.Step.{Step}
 use Rattle.revision_diagram.specs.declared.step.Step.TheVariants.{Fork, Join, Do, Ask, Say, Mark}
 use Rattle.revision_diagram.specs.Diagram.{Diagram, diagram, after, revisions, live, owner, past, path, fork, fork_length}
-use Rattle.revision_diagram.specs.Lawful.{lawful}
+use Rattle.revision_diagram.specs.Lawful.{is_lawful}
 use Rattle.revision_diagram.specs.Once.{times_on, stands_on, is_do, joins_apart, StandsOnce}
 use Rattle.revision_diagram.specs.Meeting.{Tree, FlushLaw, flushes, client_at, Flushed}
 use Rattle.revision_diagram.proofs.Steps.{by_steps, diagram-step, diagram-places}
@@ -139,7 +139,7 @@ pub owner-some : (steps : List Step) (x : ℕ) → 0 < x → x < revisions steps
 owner-some steps x l m e = let h : Served (diagram steps) = served steps in h.owned x l m e
 
 -- a join that may come
-pub lawful-Join : (steps : List Step) (r s : ℕ) → IsTrue (live steps r) → IsTrue (live steps s) → s ≢ 0 → s ≢ r → IsTrue (past steps r (fork steps s)) → IsTrue (lawful steps (Join r s))
+pub lawful-Join : (steps : List Step) (r s : ℕ) → IsTrue (live steps r) → IsTrue (live steps s) → s ≢ 0 → s ≢ r → IsTrue (past steps r (fork steps s)) → IsTrue (is_lawful steps (Join r s))
 lawful-Join steps r s r_lives s_lives not_server not_joiner seen =
     and_from (live steps r && live steps s && not (s == 0) && not (s == r)) (past steps r (fork steps s))
     (and_from (live steps r && live steps s && not (s == 0)) (not (s == r))

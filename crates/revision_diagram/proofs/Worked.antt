@@ -12,14 +12,14 @@ use Rattle.cloud_base.specs.declared.update.Answer.{Answer}
 use Rattle.cloud_base.specs.declared.update.Answer.TheVariants.{Int, Text, Truth, Tuples}
 use Rattle.cloud_base.specs.declared.update.Event.{Event}
 use Rattle.cloud_base.specs.declared.update.Event.TheVariants.{Do as DoEvent, Ask as AskEvent, Say as SayEvent, Flush}
-use Rattle.cloud_base.specs.declared.batch.End.{End}
-use Rattle.cloud_base.specs.declared.batch.End.TheVariants.{Done}
+use Rattle.cloud_base.specs.declared.end.End.{End}
+use Rattle.cloud_base.specs.declared.end.End.TheVariants.{Done}
 use Rattle.cloud_base.specs.declared.key.Key.{Key}
 use Rattle.cloud_base.specs.declared.key.Key.TheVariants.{Text as TextKey}
 use Rattle.revision_diagram.specs.declared.step.Step.{Step}
 use Rattle.revision_diagram.specs.declared.step.Step.TheVariants.{Fork, Join, Do, Ask, Say, Mark}
 use Rattle.revision_diagram.specs.Diagram.{path, acts_on}
-use Rattle.revision_diagram.specs.Lawful.{lawful, Lawful}
+use Rattle.revision_diagram.specs.Lawful.{is_lawful, Lawful}
 use Rattle.revision_diagram.specs.Right.{AnsweredRight}
 use Rattle.revision_diagram.specs.Once.{Once, AfterSeen, joins_apart}
 use Rattle.revision_diagram.specs.Story.{story, is_in_line, LineLaw, ProgramLaw}
@@ -98,7 +98,7 @@ grocery_answers log (All entity) = Truth false
 grocery_answers log (Alive id) = Truth false
 
 pub grocery_is_lawful : Lawful grocery_list
-grocery_is_lawful = each_step_passes lawful grocery_list refl
+grocery_is_lawful = each_step_passes is_lawful grocery_list refl
 
 pub grocery_is_right : AnsweredRight grocery_answers grocery_list
 grocery_is_right = AnsweredRight_passes grocery_answers grocery_list refl
@@ -166,7 +166,7 @@ abbrev pub doubled : List Step
 doubled = Fork 0 0 ∷ add 1 milk 2 ∷ Fork 1 0 ∷ Join 2 1 ∷ []
 
 pub doubled_is_lawful : Lawful doubled
-doubled_is_lawful = each_step_passes lawful doubled refl
+doubled_is_lawful = each_step_passes is_lawful doubled refl
 
 pub doubled_path : path doubled 2 ≡ 1 ∷ 1 ∷ []
 doubled_path = refl

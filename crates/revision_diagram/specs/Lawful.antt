@@ -6,14 +6,14 @@ use Rattle.revision_diagram.specs.Diagram.{EachStep, live, past, fork}
 
 -- The revisions that a step names are live. A joined one is neither the server nor the joiner, and the
 -- place of its fork is in the joiner's past.
-abbrev pub lawful : List Step → Step → Bool
-lawful front (Fork r c) = live front r
-lawful front (Join r s) = live front r && live front s && not (s == 0) && not (s == r) && past front r (fork front s)
-lawful front (Do r u) = live front r
-lawful front (Ask r q a) = live front r
-lawful front (Say r v) = live front r
-lawful front (Mark r flush) = live front r
+abbrev pub is_lawful : List Step → Step → Bool
+is_lawful front (Fork r c) = live front r
+is_lawful front (Join r s) = live front r && live front s && not (s == 0) && not (s == r) && past front r (fork front s)
+is_lawful front (Do r u) = live front r
+is_lawful front (Ask r q a) = live front r
+is_lawful front (Say r v) = live front r
+is_lawful front (Mark r flush) = live front r
 
 -- each step is lawful after those before it
 abbrev pub Lawful : List Step → Type 0
-Lawful steps = EachStep (λ front s. IsTrue (lawful front s)) steps
+Lawful steps = EachStep (λ front s. IsTrue (is_lawful front s)) steps

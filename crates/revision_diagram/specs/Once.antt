@@ -52,11 +52,11 @@ follows_seen steps before (i ∷ places) = list_all (stands_on before) (seen_at 
 abbrev pub AfterSeen : List Step → ℕ → Type 0
 AfterSeen steps r = IsTrue (follows_seen steps [] (path steps r))
 
-abbrev pub StandOnce : List Step → Type 0
-StandOnce steps = (r : ℕ) → IsTrue (live steps r) → StandsOnce steps r × AfterSeen steps r
+abbrev pub AllStandOnce : List Step → Type 0
+AllStandOnce steps = (r : ℕ) → IsTrue (live steps r) → StandsOnce steps r × AfterSeen steps r
 
 abbrev pub Once : List Step → Type 0
-Once steps = EachPrefix StandOnce steps
+Once steps = EachPrefix AllStandOnce steps
 
 -- What s's path had at its fork stands on r's path, and nothing that it has past that does. It is said of
 -- a join, and is what a join needs to keep each place once.

@@ -6,9 +6,9 @@ ghost use Rattle.cloud_base.specs.declared.update.Query.{Query};
 ghost use Rattle.cloud_base.specs.declared.update.Answer.{Answer};
 ghost use Rattle.revision_diagram.specs.declared.step.Step.{Step};
 ghost use Rattle.revision_diagram.specs.Diagram.{diagram_from, diagram, after, put, with_place, with_past, acts_on, is_of, revisions, live, owner, past, path, fork, fork_length};
-ghost use Rattle.revision_diagram.specs.Lawful.{lawful, Lawful};
+ghost use Rattle.revision_diagram.specs.Lawful.{is_lawful, Lawful};
 ghost use Rattle.revision_diagram.specs.Right.{log, Right, AnsweredRight};
-ghost use Rattle.revision_diagram.specs.Once.{stands_on, is_do, joins_apart, StandsOnce, StandOnce, Once};
+ghost use Rattle.revision_diagram.specs.Once.{stands_on, is_do, joins_apart, StandsOnce, AllStandOnce, Once};
 ghost use Rattle.revision_diagram.specs.Story.{is_told, story, event_of, events, answer_of, answers_got, is_in_line, LineLaw};
 ghost use Rattle.revision_diagram.specs.Meeting.{Tree, is_placed, Placed, is_at_mark, AtMarks, is_flush, flushes, is_mark_at, FlushLaw};
 
@@ -99,9 +99,9 @@ pub fn revisions_are_there()
 
 /// Steps are lawful where each is after those before it.
 pub fn lawful_step()
-    ensures more { (steps : List Step) (s : Step) → Lawful (steps ++ s ∷ []) ↔ (Lawful steps × IsTrue (lawful steps s)) }
+    ensures more { (steps : List Step) (s : Step) → Lawful (steps ++ s ∷ []) ↔ (Lawful steps × IsTrue (is_lawful steps s)) }
     ensures by_place { (steps : List Step) → Lawful steps ↔ ((i : ℕ) (s : Step) → slice_get steps i ≡ Some s → IsTrue (lawful (take i steps) s)) }
-    ensures join { (steps : List Step) (r s : ℕ) → IsTrue (live steps r) → IsTrue (live steps s) → s ≢ 0 → s ≢ r → IsTrue (past steps r (fork steps s)) → IsTrue (lawful steps (Step.Join r s)) }
+    ensures join { (steps : List Step) (r s : ℕ) → IsTrue (live steps r) → IsTrue (live steps s) → s ≢ 0 → s ≢ r → IsTrue (past steps r (fork steps s)) → IsTrue (is_lawful steps (Step.Join r s)) }
 {}
 
 /// Steps are answered right where each is after those before it.
@@ -113,9 +113,9 @@ pub fn right_step()
 /// A lawful step keeps each place once, where a join is of paths that are apart. They are so where the
 /// joiner has the path that the joined revision had at its fork.
 pub fn once_step()
-    ensures more { (steps : List Step) (s : Step) → Once steps → IsTrue (lawful steps s) → IsTrue (joins_apart steps s) → Once (steps ++ s ∷ []) }
+    ensures more { (steps : List Step) (s : Step) → Once steps → IsTrue (is_lawful steps s) → IsTrue (joins_apart steps s) → Once (steps ++ s ∷ []) }
     ensures front { (steps : List Step) (s : Step) → Once (steps ++ s ∷ []) → Once steps }
-    ensures by_place { (steps : List Step) → Once steps ↔ ((n : ℕ) → StandOnce (take n steps)) }
+    ensures by_place { (steps : List Step) → Once steps ↔ ((n : ℕ) → AllStandOnce (take n steps)) }
     ensures apart { (steps : List Step) (r s : ℕ) → StandsOnce steps s → path steps r ≡ take (fork_length steps s) (path steps s) → IsTrue (joins_apart steps (Step.Join r s)) }
 {}
 

@@ -1,6 +1,6 @@
 use Rattle.std.proofs.Common.{arith, inl, ◌∙◌, ◌-◌, length, drop, length-drop}
 use Rattle.std.proofs.lemmas.List.{length-take}
-use Rattle.cloud_base.specs.declared.outside.Failed.{Failed}
+use Rattle.cloud_base.specs.declared.streams.Failed.{Failed}
 use Rattle.cloud_run.proofs.Pieces.{got_more, rest_of}
 use Rattle.cloud_run.proofs.flows.write_all.Goals as goal
 

@@ -1,5 +1,5 @@
 -- The law, from the lemmas on one step more.
-use Rattle.revision_diagram.specs.Once.{StandOnce}
+use Rattle.revision_diagram.specs.Once.{AllStandOnce}
 use Rattle.revision_diagram.proofs.KeepsOnce.{Once-step}
 use Rattle.revision_diagram.proofs.Places.{EachPrefix-front, EachPrefix-by_place}
 use Rattle.revision_diagram.proofs.Kept.{joins_apart-base}
@@ -9,10 +9,10 @@ pub returns-clause-more : goal.returns-clause-more
 returns-clause-more c = Once-step
 
 pub returns-clause-front : goal.returns-clause-front
-returns-clause-front c = λ steps s. EachPrefix-front StandOnce steps s
+returns-clause-front c = λ steps s. EachPrefix-front AllStandOnce steps s
 
 pub returns-clause-by_place : goal.returns-clause-by_place
-returns-clause-by_place c = λ steps. EachPrefix-by_place StandOnce steps
+returns-clause-by_place c = λ steps. EachPrefix-by_place AllStandOnce steps
 
 pub returns-clause-apart : goal.returns-clause-apart
 returns-clause-apart c = joins_apart-base

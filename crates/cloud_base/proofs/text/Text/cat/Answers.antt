@@ -3,7 +3,7 @@ use Rattle.std.proofs.lemmas.Grind.{common_steps}
 use Rattle.cloud_base.specs.Values.{IsText}
 use Rattle.cloud_base.proofs.TextLemmas.{cat_room, cat_full, cat_nothing, cat_is_text}
 use Rattle.cloud_base.proofs.text.Text.cat.Goals as goal
-use Rattle.cloud_base.proofs.text.Text.cat.Goals.{then-len-lt-MOST_BYTES, else-len-lt-MOST_BYTES}
+use Rattle.cloud_base.proofs.text.Text.cat.Goals.{then-len-lt-MOST_TEXT_BYTES, else-len-lt-MOST_TEXT_BYTES}
 
 pub loop-byte-init : goal.loop-byte-init
 loop-byte-init c =
@@ -13,11 +13,11 @@ loop-byte-init c =
 pub loop-byte-preserved : goal.loop-byte-preserved
 loop-byte-preserved c =
     let items = c.as_slice-byte-items.result.now in
-    elim c.if-len-lt-MOST_BYTES.branch [
-      | then-len-lt-MOST_BYTES w ↦
+    elim c.if-len-lt-MOST_TEXT_BYTES.branch [
+      | then-len-lt-MOST_TEXT_BYTES w ↦
           let more = cat_room c.args.self.now items c.loop-byte.bytes.items c.loop-byte.byte-index c.loop-byte-test.true c.loop-byte.invariant (omega arith) in
           grind (arith, common_steps, more)
-      | else-len-lt-MOST_BYTES w ↦
+      | else-len-lt-MOST_TEXT_BYTES w ↦
           let same = cat_full c.args.self.now items c.loop-byte.bytes.items c.loop-byte.byte-index c.loop-byte-test.true c.loop-byte.invariant (omega arith) in
           grind (arith, common_steps, same)
     ]
