@@ -1,5 +1,7 @@
 // Names of a source.
-ghost use Rattle.std.specs.Prelude.{◌≡◌, IfOk};
+ghost use Rattle.std.specs.Prelude.{◌≡◌, IfOk, nat_eq};
+ghost use Rattle.std.specs.Cmp.{nat_eq_equiv, partial_equiv_from_equiv};
+ghost use Rattle.std.specs.Cmp.Lexicographic.{pointwise, lists_per, lists_equiv};
 ghost use Rattle.cloud_base.specs.Values.{IsName};
 
 use crate::memory::Memory;
@@ -24,6 +26,20 @@ impl Model for Name {
     ghost view = { λ n. string_bytes n.text };
 
     ghost invariant = { λ n. IsName (string_bytes n.text) };
+}
+
+impl PartialEq for Name {
+    ghost eq = { pointwise nat_eq };
+
+    ghost laws = { lists_per (partial_equiv_from_equiv nat_eq_equiv) };
+
+    fn eq(&self, other: &Name) -> bool {
+        self.text.as_str() == other.text.as_str()
+    }
+}
+
+impl Eq for Name {
+    ghost laws = { lists_equiv nat_eq_equiv };
 }
 
 impl Name {

@@ -20,7 +20,7 @@ pub enum KeyType {
 pub type KeyTypeList = Sequence<KeyType>;
 
 /// Where a property is declared. An entity goes by its number.
-#[derive(Drop)]
+#[derive(Drop, PartialEq, Eq)]
 pub enum Owner {
     Global,
     Array(Name),
@@ -28,7 +28,7 @@ pub enum Owner {
 }
 
 /// A property: its cells are of one type, one for each list of keys.
-#[derive(Drop)]
+#[derive(Drop, PartialEq, Eq)]
 pub struct Property {
     pub name: Name,
     pub owner: Owner,
@@ -39,7 +39,7 @@ pub struct Property {
 pub type PropertyList = Sequence<Property>;
 
 /// An entity, with the types of the keys that it is created with.
-#[derive(Drop)]
+#[derive(Drop, PartialEq, Eq)]
 pub struct Entity {
     pub name: Name,
     pub keys: KeyTypeList,
@@ -48,7 +48,7 @@ pub struct Entity {
 pub type EntityList = Sequence<Entity>;
 
 /// The properties by number, first all globals, and the entities by number.
-#[derive(Drop)]
+#[derive(Drop, PartialEq, Eq)]
 pub struct Schema {
     pub properties: PropertyList,
     pub entities: EntityList,

@@ -84,7 +84,7 @@ pub type IdList = Sequence<Uid>;
 pub type TupleList = Sequence<Keys>;
 
 /// What a query answers, and what a client prints.
-#[derive(Drop)]
+#[derive(Drop, PartialEq, Eq)]
 pub enum Answer {
     Int(i64),
     Text(Text),
@@ -127,7 +127,7 @@ impl Answer {
 }
 
 /// What a client does. `Yield` and `Flush` are marks.
-#[derive(Drop)]
+#[derive(Drop, PartialEq, Eq)]
 pub enum Event {
     Do(Update),
     Ask(Query, Answer),
