@@ -1,5 +1,5 @@
 // Ids and keys.
-ghost use Rattle.std.specs.Prelude.{◌≡◌, ◌≤◌, ◌<◌, ◌++◌, [], ◌∷◌, length, All, pos};
+ghost use Rattle.std.specs.Prelude.{◌≡◌, ◌≤◌, ◌<◌, ◌++◌, [], ◌∷◌, length, pos};
 ghost use Rattle.cloud_base.specs.Values.{most_keys, most_clients};
 
 use crate::text::Text;
@@ -61,6 +61,7 @@ pub enum Key {
     Ref(Uid),
 }
 
+// It is there for `ArrayVec`, which fills its unused places with it.
 impl Default for Key {
     fn default() -> Key
         ensures { result ≡ Key.Int (pos 0) }
@@ -109,6 +110,15 @@ impl Keys {
         Keys {
             keys: ArrayVec::new(),
         }
+    }
+
+    /// The list of one key.
+    pub fn one(key: Key) -> Keys
+        ensures { result ≡ key ∷ [] }
+    {
+        let mut keys = ArrayVec::new();
+        keys.push(key);
+        Keys { keys }
     }
 
     pub fn as_slice(&self) -> &[Key]

@@ -34,4 +34,6 @@ pub use sequence::Sequence;
 pub use std_streams::{StdSink, StdSource};
 pub use streams::{Failed, Sink, Source};
 pub use text::{MOST_TEXT_BYTES, Text, TextFault};
-pub use update::{Answer, CellChange, Event, EventList, IdList, Query, TupleList, Update};
+pub use update::{
+    Answer, CellChange, Event, EventList, IdList, Query, TupleList, Update, copy_events,
+};

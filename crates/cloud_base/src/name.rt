@@ -60,6 +60,7 @@ impl Name {
         ensures copy { IfOk result (λ name. name ≡ self.now) }
         ensures name { IsName self.now }
     {
+        // This opens `self`, so that the proof learns that its bytes are a name.
         let _ = &self.text;
         Name::new(alloc, self.text.as_str().as_bytes())
     }

@@ -1,5 +1,6 @@
-// Lists that contracts see as lists.
-ghost use Rattle.std.specs.Prelude.{◌≡◌, [], ◌∷◌, ◌++◌, ◌↔◌, length, IsTrue, OnOk, OnErr};
+// Lists that contracts see as lists. In all of this crate `copied()` takes no memory, and `copy(alloc)`
+// takes some and may fail for want of it.
+ghost use Rattle.std.specs.Prelude.{◌≡◌, [], ◌∷◌, ◌++◌, ◌↔◌, length, IsTrue, IfOk, OnOk, OnErr};
 ghost use Rattle.std.specs.Cmp.Lexicographic.{pointwise, lists_per, lists_equiv};
 
 use crate::memory::Memory;
@@ -32,7 +33,7 @@ impl<T> Sequence<T> {
         }
     }
 
-    /// Takes no memory, as `into_vec`.
+    /// The list of these items. It takes no memory, nor does `into_vec`.
     pub fn from_vec(items: Vec<T>) -> Sequence<T>
         ensures { result ≡ items.items }
     {
@@ -86,5 +87,16 @@ impl<T: Drop> Sequence<T> {
     {
         self.items.push(item)?;
         Ok(())
+    }
+}
+
+impl<T: Copy> Sequence<T> {
+    /// The same items.
+    pub fn copy(&self, alloc: Global) -> Result<Sequence<T>, Memory>
+        ensures { IfOk result (λ copy. copy ≡ self.now) }
+    {
+        Ok(Sequence {
+            items: Vec::from_slice(alloc, self.items.as_slice())?,
+        })
     }
 }

@@ -94,12 +94,6 @@ pub enum Answer {
     Tuples(TupleList),
 }
 
-fn copy_ids(alloc: Global, ids: &IdList) -> Result<IdList, Memory>
-    ensures { IfOk result (λ copy. copy ≡ ids.now) }
-{
-    Ok(Sequence::from_vec(Vec::from_slice(alloc, ids.as_slice())?))
-}
-
 fn copy_tuples(alloc: Global, tuples: &TupleList) -> Result<TupleList, Memory>
     ensures { IfOk result (λ copy. copy ≡ tuples.now) }
 {
@@ -120,7 +114,7 @@ impl Answer {
             Answer::Text(text) => Answer::Text(text.copied()),
             Answer::Truth(truth) => Answer::Truth(*truth),
             Answer::Id(id) => Answer::Id(*id),
-            Answer::Ids(ids) => Answer::Ids(copy_ids(alloc, ids)?),
+            Answer::Ids(ids) => Answer::Ids(ids.copy(alloc)?),
             Answer::Tuples(tuples) => Answer::Tuples(copy_tuples(alloc, tuples)?),
         })
     }
@@ -153,9 +147,21 @@ impl Event {
 
 pub type EventList = Sequence<Event>;
 
+/// The same events.
+pub fn copy_events(alloc: Global, events: &EventList) -> Result<EventList, Memory>
+    ensures { IfOk result (λ copy. copy ≡ events.now) }
+{
+    let mut copy = Sequence::new(alloc);
+    for event in events.as_slice() {
+        copy.push(event.copy(alloc)?)?;
+    }
+    Ok(copy)
+}
+
 #[cfg(test)]
 mod tests {
     use super::*;
+    use crate::key::Key;
     use std::test::Fail;
 
     #[test]
@@ -163,13 +169,20 @@ mod tests {
         let mut ids = Sequence::new(rt.alloc());
         ids.push(Uid::new(7, 1))?;
         let mut tuples = Sequence::new(rt.alloc());
-        tuples.push(Keys::empty())?;
-        let asked = Event::Ask(Query::All(3), Answer::Ids(ids)).copy(rt.alloc())?;
-        let said = Event::Say(Answer::Tuples(tuples)).copy(rt.alloc())?;
-        match (asked, said) {
-            (Event::Ask(Query::All(3), Answer::Ids(ids)), Event::Say(Answer::Tuples(tuples))) => {
+        tuples.push(Keys::one(Key::Int(4)))?;
+        let mut events = Sequence::new(rt.alloc());
+        events.push(Event::Ask(Query::All(3), Answer::Ids(ids)))?;
+        events.push(Event::Say(Answer::Tuples(tuples)))?;
+        let copy = copy_events(rt.alloc(), &events)?;
+        assert!(rt; copy == events);
+        assert!(rt; copy != Sequence::new(rt.alloc()));
+        match copy.as_slice() {
+            [
+                Event::Ask(Query::All(3), Answer::Ids(ids)),
+                Event::Say(Answer::Tuples(tuples)),
+            ] => {
                 assert!(rt; ids.as_slice() == [Uid::new(7, 1)].as_slice());
-                assert_eq!(rt; tuples.len(), 1);
+                assert!(rt; tuples.as_slice() == [Keys::one(Key::Int(4))].as_slice());
             }
             _ => assert!(rt; false),
         }
