@@ -1,8 +1,8 @@
 -- What a read hands out and what a write takes, where the object tells it.
-use Rattle.std.specs.Prelude.{◌≡◌, refl, ◌∷◌, ℕ, ◌≤◌, ◌-◌, ◌+◌, ◌^◌, List, [], ◌++◌, ◌⊎◌, length, take, drop, min, Bool, false, if◌then◌else◌, ◌==◌, Option, Some, None, Result, Ok, Err}
+use Rattle.std.specs.Prelude.{◌≡◌, ◌≢◌, refl, ◌∷◌, ℕ, ◌≤◌, ◌-◌, ◌+◌, ◌^◌, List, [], ◌++◌, ◌⊎◌, length, take, drop, min, Bool, false, if◌then◌else◌, ◌==◌, Option, Some, None, Result, Ok, Err}
 use Rattle.std.proofs.Common.{ap, lit≤, le→leb}
 use Rattle.std.proofs.Math.Nat.{suc-ne-zero}
-use Rattle.cloud_base.specs.Causes.{Rose}
+use Rattle.cloud_base.specs.Causes.{Rose, counted}
 
 -- a read of a source that had these bytes left: the first of them are handed out and the others stay;
 -- 0 comes exactly where nothing is left, and a refusal leaves all
@@ -18,10 +18,16 @@ HandsOut (Some bytes) after result into = Hands bytes after result into
 
 -- an answer of 0 comes only where the count of ends rose, and any other answer leaves it
 abbrev pub Ends : {E : Type 0} → ℕ → ℕ → Result ℕ E → Type 0
-Ends before now (Ok n) = (before ≤ now) × (n ≡ 0 → Rose before now) × ((n ≡ 0 → ⊥) → now ≡ before)
+Ends before now (Ok n) = (before ≤ now) × (n ≡ 0 → Rose before now) × (n ≢ 0 → now ≡ before)
 Ends before now (Err e) = now ≡ before
 
--- a write of a piece: so many first bytes of it are held behind what was held, and a refusal adds nothing
+-- the count of ends, where it counts each answer of 0 once and nothing else
+abbrev pub EndCount : {E : Type 0} → ℕ → ℕ → Result ℕ E → Type 0
+EndCount before now (Ok n) = now ≡ (if n == 0 then counted before else before)
+EndCount before now (Err e) = now ≡ before
+
+-- a write of a piece: as many first bytes of it as were answered are held behind what was held, and a
+-- refusal adds nothing
 abbrev pub Takes : {E : Type 0} → Option (List ℕ) → Option (List ℕ) → Result ℕ E → List ℕ → Type 0
 Takes None after result piece = after ≡ None
 Takes (Some held) after (Ok n) piece = after ≡ Some (held ++ take n piece)
@@ -31,8 +37,8 @@ Takes (Some held) after (Err e) piece = after ≡ Some held
 -- any other answer leaves it
 abbrev pub TakesCause : {E : Type 0} → ℕ → ℕ → Result ℕ E → List ℕ → Type 0
 TakesCause before now (Ok n) piece =
-    (before ≤ now) × (n ≡ 0 → (piece ≡ [] → ⊥) → Rose before now) × ((1 ≤ n) ⊎ (piece ≡ []) → now ≡ before)
-TakesCause before now (Err e) piece = Rose before now
+    (before ≤ now) × (n ≡ 0 → piece ≢ [] → Rose before now) × ((1 ≤ n) ⊎ (piece ≡ []) → now ≡ before)
+TakesCause before now (Err e) piece = (before ≤ now) × Rose before now
 
 -- a source in memory: what is left, the most bytes of a read, the calls before the one that fails, and its counts
 pub record Reading : Type 0 where
@@ -55,11 +61,7 @@ fails_now (Some n) = n == 0
 abbrev pub read_count : Reading → ℕ → ℕ
 read_count r room = min (min r.piece room) (length r.left)
 
--- one more, up to the end of the type
-abbrev pub counted : ℕ → ℕ
-counted n = min (n + 1) (2 ^ 64 - 1)
-
--- a source in memory after a read into so much room
+-- a source in memory after a read into `room` bytes
 abbrev pub after_read : Reading → ℕ → Reading
 after_read r room = if fails_now r.fails_in then record r { fails_in = None; faults = counted r.faults } else record r { left = drop (read_count r room) r.left; fails_in = one_sooner r.fails_in; ends = if read_count r room == 0 then counted r.ends else r.ends }
 
@@ -95,12 +97,17 @@ module _ where
   pub example_ends : Ends {E = ℕ} 4 5 (Ok 0) × Ends {E = ℕ} 4 4 (Ok 1)
   example_ends = ((lit≤ tt, λ e. lit≤ tt, λ no. absurd (no refl)), (lit≤ tt, λ e. absurd (suc-ne-zero 0 e), λ no. refl))
 
+  -- an end is counted once, and neither an answer of two bytes nor a refusal is an end
+  pub example_end_count : EndCount {E = ℕ} 4 5 (Ok 0) × EndCount {E = ℕ} 4 4 (Ok 2) × EndCount {E = ℕ} 4 4 (Err 0)
+  example_end_count = (refl, refl, refl)
+
   pub example_takes : Takes {E = ℕ} (Some (97 ∷ [])) (Some (97 ∷ 98 ∷ [])) (Ok 1) (98 ∷ 99 ∷ [])
   example_takes = refl
 
-  -- a refusal that is counted, a write of one byte, and a write of nothing that isn't counted
-  pub example_takes_cause : TakesCause {E = ℕ} 4 5 (Err 0) (98 ∷ []) × TakesCause {E = ℕ} 4 4 (Ok 1) (98 ∷ []) × ¬ TakesCause {E = ℕ} 4 4 (Ok 0) (98 ∷ [])
-  example_takes_cause = (lit≤ tt, (lit≤ tt, λ e some. absurd (suc-ne-zero 0 e), λ c. refl), λ h. le→leb 5 4 (h.1 refl (λ e. suc-ne-zero 0 (ap length e))))
+  -- a refusal that is counted, a write of one byte, a write of nothing that isn't counted, and a
+  -- refusal at which a count beyond the end of its type falls
+  pub example_takes_cause : TakesCause {E = ℕ} 4 5 (Err 0) (98 ∷ []) × TakesCause {E = ℕ} 4 4 (Ok 1) (98 ∷ []) × (¬ TakesCause {E = ℕ} 4 4 (Ok 0) (98 ∷ [])) × ¬ TakesCause {E = ℕ} (2 ^ 64 + 5) (2 ^ 64 - 1) (Err 0) (98 ∷ [])
+  example_takes_cause = ((lit≤ tt, lit≤ tt), (lit≤ tt, λ e some. absurd (suc-ne-zero 0 e), λ c. refl), λ h. le→leb 5 4 (h.1 refl (λ e. suc-ne-zero 0 (ap length e))), λ h. le→leb (2 ^ 64 + 5) (2 ^ 64 - 1) h.0)
 
   -- three bytes are left, a call hands out two at most, and the call after the next one fails
   abbrev three : Reading

@@ -7,9 +7,13 @@ use Rattle.std.proofs.lemmas.List.Elements.{All-nil, All-cons, All-head}
 abbrev pub IsPrintable : ℕ → Type 0
 IsPrintable b = (32 ≤ b) × (b < 127)
 
+-- the most bytes of a text
+abbrev pub most_text_bytes : ℕ
+most_text_bytes = 128
+
 -- a text
 abbrev pub IsText : List ℕ → Type 0
-IsText bytes = (length bytes ≤ 128) × All IsPrintable bytes
+IsText bytes = (length bytes ≤ most_text_bytes) × All IsPrintable bytes
 
 -- an id: the client that created it, and how many it had created before
 pub record Id : Type 0 where

@@ -1,5 +1,5 @@
 // Ids and keys.
-ghost use Rattle.std.specs.Prelude.{◌≡◌, ◌≤◌, ◌<◌, ◌++◌, [], ◌∷◌, length, pos};
+ghost use Rattle.std.specs.Prelude.{◌≡◌, ◌≤◌, ◌<◌, ◌++◌, ◌↔◌, [], ◌∷◌, length, pos, IsTrue};
 ghost use Rattle.cloud_base.specs.Values.{most_keys, most_clients};
 
 use crate::text::Text;
@@ -121,6 +121,14 @@ impl Keys {
         Keys { keys }
     }
 
+    /// Whether there is no room for one more key.
+    pub fn is_full(&self) -> bool
+        ensures most { MOST_KEYS ≡ most_keys }
+        ensures full { IsTrue result ↔ (length self.now ≡ most_keys) }
+    {
+        self.keys.len() == MOST_KEYS
+    }
+
     pub fn as_slice(&self) -> &[Key]
         ensures few { length self.now ≤ most_keys }
         ensures keys { result.now ≡ self.now }
@@ -145,5 +153,21 @@ impl Keys {
             keys.push(key.copied());
         }
         Keys { keys }
+    }
+}
+
+#[cfg(test)]
+mod tests {
+    use super::*;
+
+    #[test]
+    fn three_keys_are_the_most(rt: HostRuntime) {
+        let mut keys = Keys::one(Key::Int(1));
+        keys.push(Key::Ref(Uid::new(7, 2)));
+        assert!(rt; !keys.is_full());
+        keys.push(Key::Int(3));
+        assert!(rt; keys.is_full());
+        let wanted = [Key::Int(1), Key::Ref(Uid::new(7, 2)), Key::Int(3)];
+        assert!(rt; keys.as_slice() == wanted.as_slice());
     }
 }

@@ -1,10 +1,10 @@
 // Sources and sinks over std's readers and writers. They are the trusted edge: what a file or a
 // terminal gives or takes no contract tells. Of a reader or a writer that does tell its bytes, as one
 // over memory, clauses of their own say that these are passed on.
-ghost use Rattle.std.specs.Prelude.{◌≡◌, ◌<◌, ◌≤◌, ℕ, length, take, None, IfOk, MatchResult};
+ghost use Rattle.std.specs.Prelude.{◌≡◌, ◌<◌, ◌≤◌, ℕ, [], length, take, None, IfOk, MatchResult};
 ghost use Rattle.std.specs.Io.KnownBytes.{ReadConsumes, Appends};
-ghost use Rattle.cloud_base.specs.Causes.{HasCause};
-ghost use Rattle.cloud_base.specs.Streams.{HandsOut, Ends, Takes, TakesCause};
+ghost use Rattle.cloud_base.specs.Causes.{HasCause, FaultCount};
+ghost use Rattle.cloud_base.specs.Streams.{HandsOut, Ends, EndCount, Takes, TakesCause};
 
 use crate::streams::{Failed, Sink, Source};
 use std::io::{Read, Write};
@@ -46,6 +46,8 @@ impl<R: Read> Source for StdSource<R> {
         ensures cause { HasCause self.old.faults self.new.faults result }
         ensures end { Ends self.old.ends self.new.ends result }
         ensures reader { ReadConsumes (R.remaining self.old.inner) (R.remaining self.new.inner) result into.new }
+        ensures fault_count { FaultCount self.old.faults self.new.faults result }
+        ensures end_count { EndCount self.old.ends self.new.ends result }
     {
         match self.inner.read(into) {
             Ok(count) => {
@@ -91,7 +93,11 @@ impl<W: Write> Sink for StdSink<W> {
         ensures bound { IfOk result (λ n. n ≤ length piece.now) }
         ensures bytes { Takes None None result piece.now }
         ensures cause { TakesCause self.old.faults self.new.faults result piece.now }
-        ensures writer { MatchResult result (λ n. Appends (W.contents self.old.inner) (W.contents self.new.inner) (take n piece.now)) (λ _. (n : ℕ) × Appends (W.contents self.old.inner) (W.contents self.new.inner) (take n piece.now)) }
+        ensures writer { let added = λ (n : ℕ). Appends (W.contents self.old.inner) (W.contents self.new.inner)
+            (take n piece.now) in
+            MatchResult result added (λ _. (n : ℕ) × added n) }
+        ensures taken { IfOk result (λ n. n ≡ 0 → piece.now ≡ []) }
+        ensures fault_count { FaultCount self.old.faults self.new.faults result }
     {
         let taken = match self.inner.write(piece) {
             Ok(count) => count,
@@ -106,5 +112,95 @@ impl<W: Write> Sink for StdSink<W> {
             return Err(Failed);
         }
         Ok(taken)
+    }
+}
+
+#[cfg(test)]
+mod tests {
+    use super::*;
+    use std::io::{Error, ErrorKind};
+
+    // A reader whose first call is interrupted, and which then gives one byte and comes to its end.
+    #[derive(Drop)]
+    struct Interrupted {
+        calls: u64,
+    }
+
+    impl Read for Interrupted {
+        fn read(&mut self, buf: &mut [u8]) -> std::io::Result<usize> {
+            self.calls = self.calls.saturating_add(1);
+            match self.calls {
+                1 => Err(Error::from(ErrorKind::Interrupted)),
+                2 if !buf.is_empty() => {
+                    buf[0] = b'a';
+                    Ok(1)
+                }
+                _ => Ok(0),
+            }
+        }
+    }
+
+    #[test]
+    fn a_reader_is_asked_once_a_read(rt: HostRuntime) {
+        let mut source = StdSource::new(Interrupted { calls: 0 });
+        let mut into = [0; 4];
+        for (answer, calls, faults, ends) in [
+            (Err(Failed), 1, 1, 0),
+            (Ok(1), 2, 1, 0),
+            (Ok(0), 3, 1, 1),
+        ] {
+            assert!(rt; source.read(&mut into) == answer);
+            assert_eq!(rt; source.inner.calls, calls);
+            assert_eq!(rt; source.faults, faults);
+            assert_eq!(rt; source.ends, ends);
+        }
+        assert_eq!(rt; into[0], b'a');
+    }
+
+    // A writer that takes at most `takes` bytes a call, and fails where it is said.
+    #[derive(Drop)]
+    struct Faulty {
+        takes: usize,
+        is_write_refused: bool,
+        is_flush_refused: bool,
+        flushes: u64,
+    }
+
+    impl Write for Faulty {
+        fn write(&mut self, buf: &[u8]) -> std::io::Result<usize> {
+            if self.is_write_refused {
+                return Err(Error::from(ErrorKind::Interrupted));
+            }
+            Ok(self.takes.min(buf.len()))
+        }
+
+        fn flush(&mut self) -> std::io::Result<()> {
+            self.flushes = self.flushes.saturating_add(1);
+            if self.is_flush_refused {
+                return Err(Error::from(ErrorKind::Interrupted));
+            }
+            Ok(())
+        }
+    }
+
+    #[test]
+    fn a_writer_takes_flushes_or_fails(rt: HostRuntime) {
+        for (piece, takes, is_write_refused, is_flush_refused, answer, flushes, faults) in [
+            (b"abc".as_slice(), 2, false, false, Ok(2), 1, 0),
+            (b"abc", 0, false, false, Err(Failed), 0, 1),
+            (b"abc", 2, true, false, Err(Failed), 0, 1),
+            (b"abc", 2, false, true, Err(Failed), 1, 1),
+            (b"", 2, false, false, Ok(0), 1, 0),
+        ] {
+            let mut sink = StdSink::new(Faulty {
+                takes,
+                is_write_refused,
+                is_flush_refused,
+                flushes: 0,
+            });
+            assert!(rt; sink.write(piece) == answer);
+            assert_eq!(rt; sink.inner.flushes, flushes);
+            assert_eq!(rt; sink.faults, faults);
+        }
     }
 }
