@@ -8,10 +8,10 @@ use std::alloc::Global;
 
 /// What one push carries.
 ///
-/// `before` is what ran between the last push and the pull of its reply. It is empty or ends with the
-/// mark at which the pull was made. `rest` is what ran from that pull to this push, and ends with the
-/// mark at which the push was made, if it isn't empty. `base` is how many batches the server's record
-/// had when it made that reply. Round 1 has an empty `before`.
+/// `before` is what ran between the last push and the pull of its reply. It is empty or ends with
+/// the mark at which the pull was made, and in round 1 it is empty. `rest` is what ran from that
+/// pull to this push, and ends with the mark at which the push was made, if it isn't empty. `base`
+/// is how many batches the server's record had when it made that reply.
 #[derive(Drop, PartialEq, Eq)]
 pub struct Batch {
     pub client: u8,

@@ -26,7 +26,13 @@ impl Model for MemSource {
 
     ghost Value = { Reading };
 
-    ghost view = { λ s. record { left = drop s.at s.bytes.items; piece = s.piece; fails_in = s.fails_in; faults = s.faults; ends = s.ends } };
+    ghost view = { λ s. record {
+      left = drop s.at s.bytes.items;
+      piece = s.piece;
+      fails_in = s.fails_in;
+      faults = s.faults;
+      ends = s.ends;
+    } };
 
     ghost invariant = { λ s. (s.at ≤ vec_len s.bytes) × (1 ≤ s.piece) };
 }
@@ -40,7 +46,13 @@ impl MemSource {
         fail_at: Option<u64>,
     ) -> Result<MemSource, Memory>
         requires { 1 ≤ piece }
-        ensures { IfOk result (λ source. source ≡ record { left = bytes.now; piece = piece; fails_in = fail_at; faults = 0; ends = 0 }) }
+        ensures { IfOk result (λ source. source ≡ record {
+          left = bytes.now;
+          piece = piece;
+          fails_in = fail_at;
+          faults = 0;
+          ends = 0;
+        }) }
     {
         Ok(MemSource {
             bytes: Vec::from_slice(alloc, bytes)?,
@@ -96,8 +108,8 @@ impl Source for MemSource {
     }
 }
 
-/// A sink in memory. It takes at most `piece` bytes a call and holds at most `room` bytes, and a call
-/// that finds it full fails.
+/// A sink in memory. It takes at most `piece` bytes a call and holds at most `room` bytes, and a
+/// call that finds it full fails.
 #[derive(Drop)]
 pub struct MemSink {
     held: Vec<u8>,
@@ -112,16 +124,28 @@ impl Model for MemSink {
 
     ghost Value = { Writing };
 
-    ghost view = { λ s. record { held = s.held.items; piece = s.piece; room = s.room; faults = s.faults } };
+    ghost view = { λ s. record {
+      held = s.held.items;
+      piece = s.piece;
+      room = s.room;
+      faults = s.faults;
+    } };
 
-    ghost invariant = { λ s. (vec_len s.held ≤ s.room) × (s.room ≤ vec_capacity s.held) × (1 ≤ s.piece) };
+    ghost invariant = { λ s. (vec_len s.held ≤ s.room)
+        × (s.room ≤ vec_capacity s.held)
+        × (1 ≤ s.piece) };
 }
 
 impl MemSink {
     /// An empty sink. It takes the memory for `room` bytes at once, and a write takes none.
     pub fn new(alloc: Global, piece: usize, room: usize) -> Result<MemSink, Memory>
         requires { 1 ≤ piece }
-        ensures { IfOk result (λ sink. sink ≡ record { held = []; piece = piece; room = room; faults = 0 }) }
+        ensures { IfOk result (λ sink. sink ≡ record {
+          held = [];
+          piece = piece;
+          room = room;
+          faults = 0;
+        }) }
     {
         Ok(MemSink {
             held: Vec::with_capacity(alloc, room)?,
@@ -169,14 +193,14 @@ mod tests {
     fn a_source_hands_out_pieces(rt: HostRuntime) -> Result<(), Fail> {
         let mut source = MemSource::new(rt.alloc(), b"abc", 2, Some(2))?;
         let mut into = [0; 8];
-        for (answer, front) in [
+        for (answer, prefix) in [
             (Ok(2), b"ab".as_slice()),
             (Ok(1), b"c"),
             (Err(Failed), b"c"),
             (Ok(0), b"c"),
         ] {
             assert!(rt; source.read(&mut into) == answer);
-            assert!(rt; into.starts_with(front));
+            assert!(rt; into.starts_with(prefix));
         }
         Ok(())
     }

@@ -1,4 +1,4 @@
-// Ids and keys.
+// Ids of created entities, and the keys of cells and entities.
 ghost use Rattle.std.specs.Prelude.{◌≡◌, ◌≤◌, ◌<◌, ◌++◌, ◌↔◌, [], ◌∷◌, length, pos, IsTrue};
 ghost use Rattle.cloud_base.specs.Values.{most_keys, most_clients};
 
@@ -71,7 +71,7 @@ impl Default for Key {
 }
 
 impl Key {
-    /// The same key. It takes no memory.
+    /// The same key.
     pub fn copied(&self) -> Key
         ensures { result ≡ self.now }
     {
@@ -144,7 +144,7 @@ impl Keys {
         self.keys.push(key);
     }
 
-    /// The same keys. It takes no memory.
+    /// The same keys.
     pub fn copied(&self) -> Keys
         ensures { result ≡ self.now }
     {

@@ -1,4 +1,4 @@
-// Want of memory.
+// The error of a call that wanted memory.
 use std::alloc::{AllocError, AllocFailed};
 
 /// Want of memory, the one answer that no contract ties to a cause.

@@ -1,5 +1,4 @@
-// Lists that contracts see as lists. In all of this crate `copied()` takes no memory, and `copy(alloc)`
-// takes some and may fail for want of it.
+// Lists that contracts see as lists.
 ghost use Rattle.std.specs.Prelude.{◌≡◌, [], ◌∷◌, ◌++◌, ◌↔◌, length, IsTrue, IfOk, OnOk, OnErr};
 ghost use Rattle.std.specs.Cmp.Lexicographic.{pointwise, lists_per, lists_equiv};
 

@@ -1,6 +1,7 @@
 // Sources and sinks over std's readers and writers. They are the trusted edge: what a file or a
-// terminal gives or takes no contract tells. Of a reader or a writer that does tell its bytes, as one
-// over memory, clauses of their own say that these are passed on.
+// terminal gives or takes no contract tells, nor that a writer is flushed. Of a reader or a writer
+// that does tell its bytes, as one over memory, the clauses `reader` and `writer` say that these
+// are passed on.
 ghost use Rattle.std.specs.Prelude.{◌≡◌, ◌<◌, ◌≤◌, ℕ, [], length, take, None, IfOk, MatchResult};
 ghost use Rattle.std.specs.Io.KnownBytes.{ReadConsumes, Appends};
 ghost use Rattle.cloud_base.specs.Causes.{HasCause, FaultCount};
@@ -45,7 +46,8 @@ impl<R: Read> Source for StdSource<R> {
         ensures bytes { HandsOut None None result into.new }
         ensures cause { HasCause self.old.faults self.new.faults result }
         ensures end { Ends self.old.ends self.new.ends result }
-        ensures reader { ReadConsumes (R.remaining self.old.inner) (R.remaining self.new.inner) result into.new }
+        ensures reader { ReadConsumes (R.remaining self.old.inner) (R.remaining self.new.inner)
+            result into.new }
         ensures fault_count { FaultCount self.old.faults self.new.faults result }
         ensures end_count { EndCount self.old.ends self.new.ends result }
     {
@@ -93,8 +95,8 @@ impl<W: Write> Sink for StdSink<W> {
         ensures bound { IfOk result (λ n. n ≤ length piece.now) }
         ensures bytes { Takes None None result piece.now }
         ensures cause { TakesCause self.old.faults self.new.faults result piece.now }
-        ensures writer { let added = λ (n : ℕ). Appends (W.contents self.old.inner) (W.contents self.new.inner)
-            (take n piece.now) in
+        ensures writer { let added = λ (n : ℕ). Appends (W.contents self.old.inner)
+            (W.contents self.new.inner) (take n piece.now) in
             MatchResult result added (λ _. (n : ℕ) × added n) }
         ensures taken { IfOk result (λ n. n ≡ 0 → piece.now ≡ []) }
         ensures fault_count { FaultCount self.old.faults self.new.faults result }

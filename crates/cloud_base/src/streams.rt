@@ -3,7 +3,7 @@ ghost use Rattle.std.specs.Prelude.{◌≡◌, ℕ, List, [], ◌<◌, ◌≤◌
 ghost use Rattle.cloud_base.specs.Causes.{HasCause};
 ghost use Rattle.cloud_base.specs.Streams.{HandsOut, Ends, Takes, TakesCause};
 
-/// The answer of an call of a source or a sink whose count of faults rose.
+/// The answer of a call of a source or a sink whose count of faults rose.
 #[derive(Clone, Copy, Debug, PartialEq, Eq, Drop)]
 pub struct Failed;
 
@@ -16,7 +16,7 @@ pub trait Source {
 
     ghost ends: { Self → ℕ };
 
-    /// Reads into the front of `into`. The answer is how many bytes, 0 at the end.
+    /// Reads into the first places of `into`. The answer is how many bytes, 0 at the end.
     fn read(&mut self, into: &mut [u8]) -> Result<usize, Failed>
         requires { 0 < length into.old }
         ensures bound { IfOk result (λ n. n ≤ length into.old) }
@@ -26,14 +26,14 @@ pub trait Source {
         ensures end { Ends (ends self.old) (ends self.new) result };
 }
 
-/// A sink of bytes. `holds` is what it holds, where it tells that. The count of faults never falls, and
-/// stands still at `u64::MAX`.
+/// A sink of bytes. `holds` is what it holds, where it tells that. The count of faults never falls,
+/// and stands still at `u64::MAX`.
 pub trait Sink {
     ghost holds: { Self → Option (List ℕ) };
 
     ghost faults: { Self → ℕ };
 
-    /// Takes a front of `piece`. The answer is how many bytes.
+    /// Takes the first bytes of `piece`. The answer is how many.
     fn write(&mut self, piece: &[u8]) -> Result<usize, Failed>
         ensures bound { IfOk result (λ n. n ≤ length piece.now) }
         ensures bytes { Takes (holds self.old) (holds self.new) result piece.now }

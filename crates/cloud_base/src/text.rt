@@ -49,10 +49,11 @@ fn is_printable(byte: u8) -> bool
 }
 
 impl Text {
-    /// The text of these bytes. It is `TooLong` exactly where they are more than `MOST_TEXT_BYTES`, and else
-    /// `BadByte` at the first byte outside 0x20 to 0x7E. It takes no memory.
+    /// The text of these bytes. It is `TooLong` exactly where they are more than `MOST_TEXT_BYTES`,
+    /// and else `BadByte` at the first byte outside 0x20 to 0x7E. It takes no memory.
     pub fn new(bytes: &[u8]) -> Result<Text, TextFault>
-        ensures { MatchResult result (λ text. (text ≡ bytes.now) × IsText bytes.now) (HasFault bytes.now) }
+        ensures { MatchResult result (λ text. (text ≡ bytes.now) × IsText bytes.now)
+            (HasFault bytes.now) }
     {
         if bytes.len() > MOST_TEXT_BYTES {
             return Err(TextFault::TooLong { len: bytes.len() });
@@ -82,7 +83,7 @@ impl Text {
         self.bytes.as_slice()
     }
 
-    /// The same text. It takes no memory.
+    /// The same text.
     pub fn copied(&self) -> Text
         ensures { result ≡ self.now }
     {

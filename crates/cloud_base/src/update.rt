@@ -1,4 +1,4 @@
-// Updates, queries, answers and events.
+// What a client does to the data and asks of it: updates, queries, answers and events.
 ghost use Rattle.std.specs.Prelude.{◌≡◌, IfOk};
 
 use crate::key::{Keys, Uid};
@@ -17,7 +17,7 @@ pub enum CellChange {
 }
 
 impl CellChange {
-    /// The same change. It takes no memory.
+    /// The same change.
     pub fn copied(&self) -> CellChange
         ensures { result ≡ self.now }
     {
@@ -40,7 +40,7 @@ pub enum Update {
 }
 
 impl Update {
-    /// The same update. It takes no memory.
+    /// The same update.
     pub fn copied(&self) -> Update
         ensures { result ≡ self.now }
     {
@@ -54,8 +54,8 @@ impl Update {
     }
 }
 
-/// A query: the value of a cell, the ids of an entity, the key lists of a property, or whether an id
-/// is alive.
+/// A query: the value of a cell, the ids of an entity, the key lists of a property, or whether an
+/// id is alive.
 #[derive(Drop, PartialEq, Eq)]
 pub enum Query {
     Get(u16, Keys),
@@ -65,7 +65,7 @@ pub enum Query {
 }
 
 impl Query {
-    /// The same query. It takes no memory.
+    /// The same query.
     pub fn copied(&self) -> Query
         ensures { result ≡ self.now }
     {
