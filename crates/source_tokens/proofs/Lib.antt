@@ -1,0 +1,6 @@
+mod Begun
+pub mod Fronts
+mod Literals
+mod Opened
+pub mod Sameness
+mod Splits
