@@ -11,7 +11,8 @@ use crate::words::{reserved, symbol_at};
 use cloud_base::{Memory, Sequence};
 use std::alloc::Global;
 
-// What stands at the front of a text, and how many bytes it has. White space and comments are no token.
+// What stands at the front of a text, and how many bytes it has. White space and comments are no
+// token.
 #[derive(Debug, Drop)]
 pub struct Lexeme {
     pub token: Option<Token>,
@@ -130,7 +131,8 @@ fn blank(length: usize) -> Lexeme
 #[tactic(auto, using(crate::proofs::Fronts::word_fits, crate::proofs::Fronts::word_is_name))]
 fn word_lexeme(alloc: Global, text: &[u8]) -> Result<Lexeme, Memory>
     requires { is_letter (slice_index text.now 0) ≡ true }
-    ensures lexeme { IfOk result (λ l. l ≡ lexeme (word_token (word_at text.now)) (length (word_at text.now))) }
+    ensures lexeme { IfOk result
+        (λ l. l ≡ lexeme (word_token (word_at text.now)) (length (word_at text.now))) }
     ensures within { IfOk result (λ l. (1 ≤ l.length) × (l.length ≤ length text.now)) }
 {
     let word = word_at(text);
@@ -143,7 +145,8 @@ fn word_lexeme(alloc: Global, text: &[u8]) -> Result<Lexeme, Memory>
 #[tactic(auto, using(crate::proofs::Fronts::digits_fit))]
 fn number_lexeme(text: &[u8]) -> Lexeme
     requires { is_digit (slice_index text.now 0) ≡ true }
-    ensures lexeme { result ≡ lexeme (Number (number_value (digits_at text.now))) (length (digits_at text.now)) }
+    ensures lexeme { result
+        ≡ lexeme (Number (number_value (digits_at text.now))) (length (digits_at text.now)) }
     ensures within { (1 ≤ result.length) × (result.length ≤ length text.now) }
 {
     let digits = digits_at(text);
@@ -194,8 +197,10 @@ fn literal_behind(alloc: Global, text: &[u8]) -> Result<Option<Literal>, Memory>
 }
 
 fn literal_lexeme(alloc: Global, behind: &[u8]) -> Result<Option<Lexeme>, Memory>
-    ensures lexeme { IfOk result (λ found. found ≡ option_map literal_lexeme (literal_behind false behind.now)) }
-    ensures within { IfOk result (λ found. IfSome found (λ l. (1 ≤ l.length) × (l.length ≤ length behind.now + 1))) }
+    ensures lexeme { IfOk result
+        (λ found. found ≡ option_map literal_lexeme (literal_behind false behind.now)) }
+    ensures within { IfOk result
+        (λ found. IfSome found (λ l. (1 ≤ l.length) × (l.length ≤ length behind.now + 1))) }
 {
     let Some(Literal { bytes, length }) = literal_behind(alloc, behind)? else {
         return Ok(None);
@@ -208,7 +213,8 @@ fn literal_lexeme(alloc: Global, behind: &[u8]) -> Result<Option<Lexeme>, Memory
 
 #[tactic(auto, using(crate::proofs::Fronts::symbol_fits))]
 fn symbol_lexeme(text: &[u8]) -> Option<Lexeme>
-    ensures lexeme { result ≡ option_map (λ t. lexeme (Fixed t) (length (terminal_text t))) (symbol_at text.now) }
+    ensures lexeme { result
+        ≡ option_map (λ t. lexeme (Fixed t) (length (terminal_text t))) (symbol_at text.now) }
     ensures within { IfSome result (λ l. (1 ≤ l.length) × (l.length ≤ length text.now)) }
 {
     let terminal = symbol_at(text)?;
@@ -222,7 +228,8 @@ fn symbol_lexeme(text: &[u8]) -> Option<Lexeme>
 #[tactic(auto, using(crate::proofs::Fronts::comment_fits), unfolding(crate::specs::Lexemes::lexeme_at))]
 pub fn lexeme_at(alloc: Global, text: &[u8]) -> Result<Option<Lexeme>, Memory>
     ensures lexeme { IfOk result (λ found. found ≡ lexeme_at text.now) }
-    ensures within { IfOk result (λ found. IfSome found (λ l. (1 ≤ l.length) × (l.length ≤ length text.now))) }
+    ensures within { IfOk result
+        (λ found. IfSome found (λ l. (1 ≤ l.length) × (l.length ≤ length text.now))) }
 {
     let Some((&first, behind)) = text.split_first() else {
         return Ok(None);

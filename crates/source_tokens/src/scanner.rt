@@ -15,7 +15,8 @@ fn push_token(
     line: usize,
 ) -> Result<(), Memory>
     ensures { OnOk result
-        (found.new ≡ found.old ++ (with_token at line token record { tokens = []; fault = None }).tokens) }
+        (found.new ≡ found.old
+        ++ (with_token at line token record { tokens = []; fault = None }).tokens) }
 {
     if let Some(token) = token {
         found.push(Placed { token, at, line })?;
@@ -23,8 +24,8 @@ fn push_token(
     Ok(())
 }
 
-/// The tokens of a text, up to its first lexical fault: the place where neither white space, a comment
-/// nor a token begins, or of the opening quote of a text literal that isn't one.
+/// The tokens of a text, up to its first lexical fault: the place where neither white space, a
+/// comment nor a token begins, or of the opening quote of a text literal that isn't one.
 pub fn scan(alloc: Global, text: &[u8]) -> Result<Scan, Memory>
     ensures { IfOk result (λ found. found ≡ scan text.now) }
 {

@@ -3,8 +3,8 @@ use crate::identifier::Identifier;
 use crate::terminal::Terminal;
 use cloud_base::Sequence;
 
-/// A token of a source. A number above `u64::MAX` counts as `u64::MAX`. A text is what stands between
-/// its quotes with the escapes read, of any length.
+/// A token of a source. A number above `u64::MAX` counts as `u64::MAX`. A text is what stands
+/// between its quotes with the escapes read, of any length.
 #[derive(Debug, Drop)]
 pub enum Token {
     Name(Identifier),
@@ -21,7 +21,8 @@ pub struct Placed {
     pub line: usize,
 }
 
-/// The tokens of a text before its first lexical fault, and the place of that fault if there is one.
+/// The tokens of a text before its first lexical fault, and the place of that fault if there is
+/// one.
 #[derive(Debug, Drop)]
 pub struct Scan {
     pub tokens: Sequence<Placed>,

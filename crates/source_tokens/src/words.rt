@@ -1,4 +1,4 @@
-// Which fixed tokens are reserved words, and which are symbols. The tables are those of the definitions.
+// Which fixed tokens are reserved words, and which are symbols, by tables of the definitions.
 ghost use Rattle.std.specs.Prelude.{◌≡◌};
 ghost use Rattle.source_tokens.specs.Terminals.{reserved, words_from, written_so};
 ghost use Rattle.source_tokens.specs.Lexemes.{symbol_at};
