@@ -5,8 +5,7 @@ use Rattle.std.specs.List.{list_any}
 use Rattle.std.proofs.lemmas.Bool.{cases_Bool, and_parts, false≢true}
 use Rattle.cloud_base.specs.Values.{Id}
 use Rattle.cloud_base.specs.Order.{id_order, keys_order, same_keys}
-use Rattle.cloud_base.specs.PlainCell.{plain_value, plain_int, plain_text, default_of, is_default}
-use Rattle.std.specs.Int.{int_wrap}
+use Rattle.cloud_base.specs.PlainCell.{plain_value, default_of, is_default}
 use Rattle.cloud_base.specs.Log.{Creation, creation, created, is_of, of_cell, touched, ids_of}
 use Rattle.cloud_base.specs.Dead.{is_dead, has_dead}
 use Rattle.cloud_base.specs.Shaped.{cell_type}
@@ -25,12 +24,12 @@ use Rattle.cloud_base.specs.declared.update.Answer.TheVariants.{Ids, Tuples, Tru
 use Rattle.cloud_base.proofs.OrderLemmas.{id_order_total, id_same, keys_order_total, keys_same, same_keys_decides}
 use Rattle.cloud_base.proofs.SortedLemmas.{here, there, ascending_kept, lists_one}
 use Rattle.cloud_base.proofs.LogLemmas.{created_member, created_contains}
+use Rattle.cloud_base.proofs.PlainLemmas.{nothing_is_default}
 use Rattle.cloud_base.proofs.DeadLemmas.{dead_alike, has_dead_same, some_member, member_some}
 
 -- ---- values
 
-default_is_default : (type : CellType) → is_default (default_of type) ≡ true
-unfolding plain_value plain_int plain_text int_wrap
+pub default_is_default : (type : CellType) → is_default (default_of type) ≡ true
 default_is_default IntCell = refl
 default_is_default TextCell = refl
 
@@ -42,7 +41,7 @@ value_alike schema log other property keys a = get_same schema log other propert
 
 -- ---- the ids of an entity
 
-listed_created : (log : List Update) (entity : ℕ) (id : Id) → is_listed log entity id ≡ true → Contains (created log) id
+pub listed_created : (log : List Update) (entity : ℕ) (id : Id) → is_listed log entity id ≡ true → Contains (created log) id
 listed_created log entity id h = at (creation id log) refl
   where
     at : (o : Option Creation) → creation id log ≡ o → Contains (created log) id
@@ -94,10 +93,10 @@ still_default schema log property keys e =
     let P : Bool → Type 0 = λ b. is_default (cond b (default_of type) (plain_value type (of_cell property keys log))) ≡ true in
     elim (has_dead log keys) as P [
       | true ↦ default_is_default type
-      | false ↦ ap (λ c. is_default (plain_value type c)) e ∙ default_is_default type
+      | false ↦ ap (λ c. is_default (plain_value type c)) e ∙ ap is_default (nothing_is_default type) ∙ default_is_default type
     ]
 
-entry_touched : (schema : Schema) (log : List Update) (property : ℕ) (keys : List Key) → is_entry schema log property keys ≡ true → Contains (touched property log) keys
+pub entry_touched : (schema : Schema) (log : List Update) (property : ℕ) (keys : List Key) → is_entry schema log property keys ≡ true → Contains (touched property log) keys
 entry_touched schema log property keys h =
     let test : List Key → Bool = λ ks. same_keys ks keys in
     elim (cases_Bool (list_any test (touched property log))) [

@@ -4,7 +4,9 @@ use Rattle.std.specs.Prelude.{ℤ, pos, ◌+ℤ◌, FitsSigned}
 use Rattle.std.specs.Int.{w64, int_wrap}
 use Rattle.std.proofs.lemmas.Int.{int_wrap-add_left, int_wrap_fits, SFits-int_wrap, ints}
 use Rattle.std.proofs.Common.{arith}
-use Rattle.cloud_base.specs.PlainCell.{has_set, last_set, adds_after, plain_int, if_empty, walk_text, plain_text}
+use Rattle.cloud_base.specs.PlainCell.{has_set, last_set, adds_after, plain_int, if_empty, walk_text, plain_text, plain_value, default_of}
+use Rattle.cloud_base.specs.declared.schema.CellType.{CellType}
+use Rattle.cloud_base.specs.declared.schema.CellType.TheVariants.{Int as IntCell, Text as TextCell}
 use Rattle.cloud_base.specs.declared.update.CellChange.{CellChange}
 use Rattle.cloud_base.specs.declared.update.CellChange.TheVariants.{Add, SetInt, SetText, SetIfEmpty}
 
@@ -126,3 +128,10 @@ int_text changes t = (int_same changes (SetText t) refl refl refl, int_same chan
 pub text_walk : (first second : List CellChange) → plain_text (first ++ second) ≡ walk_text (plain_text first) second
 unfolding plain_text
 text_walk first second = walk_on [] first second
+
+-- ---- no changes
+
+pub nothing_is_default : (type : CellType) → plain_value type [] ≡ default_of type
+unfolding plain_value plain_int plain_text int_wrap
+nothing_is_default IntCell = refl
+nothing_is_default TextCell = refl

@@ -58,11 +58,25 @@ unfoldable pub plain_value : CellType → List CellChange → Answer
 plain_value IntCell changes = Int (plain_int changes)
 plain_value TextCell changes = Text (plain_text changes)
 
--- the default of a type, 0 or the empty text: the value over no changes
-abbrev pub default_of : CellType → Answer
-default_of type = plain_value type []
+-- what the value of a cell is: a number or a text
+pub data ValueKind : Type 0 where
+  Number : ValueKind
+  Words : ValueKind
 
--- 0 or the empty text
+abbrev pub value_kind : CellType → ValueKind
+value_kind IntCell = Number
+value_kind TextCell = Words
+
+-- the default of a kind of value: 0 or the empty text
+abbrev pub kind_default : ValueKind → Answer
+kind_default Number = Int (pos 0)
+kind_default Words = Text []
+
+-- the default of a type of cell
+abbrev pub default_of : CellType → Answer
+default_of type = kind_default (value_kind type)
+
+-- whether a value is the default of its kind
 abbrev pub is_default : Answer → Bool
 is_default (Int (pos n)) = n == 0
 is_default (Text []) = true
@@ -95,6 +109,11 @@ pub example_free_again : plain_text (SetIfEmpty (97 ∷ []) ∷ SetText [] ∷ S
 unfolding plain_text
 example_free_again = refl
 
-pub example_defaults : (default_of IntCell ≡ Int (pos 0)) × (default_of TextCell ≡ Text [])
+-- no changes leave the default
+pub example_defaults : (default_of IntCell ≡ Int (pos 0)) × (default_of TextCell ≡ Text []) × (plain_value IntCell [] ≡ Int (pos 0)) × (plain_value TextCell [] ≡ Text [])
 unfolding plain_value plain_int plain_text int_wrap
-example_defaults = (refl, refl)
+example_defaults = (refl, refl, refl, refl)
+
+-- 0 is a default, and neither -1 nor a text of one letter is
+pub example_is_default : (is_default (Int (pos 0)) ≡ true) × (is_default (Int (negsuc 0)) ≡ false) × (is_default (Text []) ≡ true) × (is_default (Text (97 ∷ [])) ≡ false)
+example_is_default = (refl, refl, refl, refl)

@@ -1,12 +1,15 @@
 -- Updates, queries and answers of a schema's shape, and fit logs.
-use Rattle.std.specs.Prelude.{refl, true, pos, ℕ, ◌≤◌, ◌<◌, ◌^◌, ⊤, List, [], ◌∷◌, length, All, Contains, Option, MatchOption, slice_get, FitsSigned}
+use Rattle.std.specs.Prelude.{◌≡◌, refl, true, pos, ℕ, ◌≤◌, ◌<◌, ◌^◌, ⊤, List, [], ◌∷◌, length, All, Contains, Option, MatchOption, slice_get, FitsSigned}
 use Rattle.std.specs.Int.{w64}
 use Rattle.std.specs.Option.{option_map_or}
-use Rattle.std.proofs.Common.{lit<, lit≤, lt→ltb}
-use Rattle.std.proofs.lemmas.List.Elements.{All-nil, All-cons}
-use Rattle.cloud_base.specs.declared.schema.Owner.TheVariants.{Array}
+use Rattle.std.proofs.Common.{sym, ap, lit<, lit≤, le→leb, lt→ltb}
+use Rattle.std.proofs.Math.Nat.{suc-ne-zero, not-suc-le-zero}
+use Rattle.std.proofs.lemmas.List.Elements.{All-nil, All-cons, All-head}
+use Rattle.cloud_base.specs.declared.schema.Owner.{Owner}
+use Rattle.cloud_base.specs.declared.schema.Owner.TheVariants.{Global, Array, Entity as EntityOwner}
 use Rattle.cloud_base.specs.Values.{Id, IsPrintable, IsText, most_clients, most_keys}
 use Rattle.cloud_base.specs.Log.{created}
+use Rattle.cloud_base.specs.PlainCell.{ValueKind, Number, Words, value_kind}
 use Rattle.cloud_base.specs.declared.key.Key.{Key}
 use Rattle.cloud_base.specs.declared.key.Key.TheVariants.{Int as IntKey, Text as TextKey, Ref}
 use Rattle.cloud_base.specs.declared.schema.CellType.{CellType}
@@ -23,7 +26,9 @@ use Rattle.cloud_base.specs.declared.update.Update.TheVariants.{Cell, Create, De
 use Rattle.cloud_base.specs.declared.update.Query.{Query}
 use Rattle.cloud_base.specs.declared.update.Query.TheVariants.{Get, All as AllOf, Entries, Alive}
 use Rattle.cloud_base.specs.declared.update.Answer.{Answer}
-use Rattle.cloud_base.specs.declared.update.Answer.TheVariants.{Int, Text, Truth, Ids, Tuples}
+use Rattle.cloud_base.specs.declared.update.Answer.TheVariants.{Int, Text, Truth, Id as IdAnswer, Ids, Tuples}
+use Rattle.cloud_base.specs.declared.update.Event.{Event}
+use Rattle.cloud_base.specs.declared.update.Event.TheVariants.{Do, Ask, Say, Yield, Flush}
 
 -- an id as the program can hold it
 abbrev pub IsId : Id → Type 0
@@ -54,11 +59,15 @@ IsChange TextCell (SetText text) = IsText text
 IsChange TextCell (SetIfEmpty text) = IsText text
 IsChange _ _ = ⊥
 
+-- a value of a kind
+abbrev pub IsOfKind : ValueKind → Answer → Type 0
+IsOfKind Number (Int n) = FitsSigned w64 n
+IsOfKind Words (Text text) = IsText text
+IsOfKind _ _ = ⊥
+
 -- a value of a cell of a type
 abbrev pub IsValue : CellType → Answer → Type 0
-IsValue IntCell (Int n) = FitsSigned w64 n
-IsValue TextCell (Text text) = IsText text
-IsValue _ _ = ⊥
+IsValue type value = IsOfKind (value_kind type) value
 
 -- the property and the entity of a number, where the schema has it
 abbrev pub property_at : Schema → ℕ → Option Property
@@ -96,10 +105,31 @@ IsShapedAnswer schema (Entries property) (Tuples tuples) = All (IsCell schema pr
 IsShapedAnswer schema (Alive id) (Truth b) = ⊤
 IsShapedAnswer schema _ _ = ⊥
 
+-- a value that may be printed: any but a list
+abbrev pub IsSaid : Answer → Type 0
+IsSaid (Int n) = FitsSigned w64 n
+IsSaid (Text text) = IsText text
+IsSaid (Truth b) = ⊤
+IsSaid (IdAnswer id) = IsId id
+IsSaid (Ids ids) = ⊥
+IsSaid (Tuples tuples) = ⊥
+
+-- an event of the schema's shape
+abbrev pub IsShapedEvent : Schema → Event → Type 0
+IsShapedEvent schema (Do update) = IsShaped schema update
+IsShapedEvent schema (Ask query answer) = IsShapedQuery schema query × IsShapedAnswer schema query answer
+IsShapedEvent schema (Say answer) = IsSaid answer
+IsShapedEvent schema Yield = ⊤
+IsShapedEvent schema Flush = ⊤
+
 -- no member twice
 abbrev pub NoRepeat : {A : Type 0} → List A → Type 0
 NoRepeat [] = ⊤
 NoRepeat (x ∷ xs) = (¬ Contains xs x) × NoRepeat xs
+
+-- no member of both
+abbrev pub Disjoint : {A : Type 0} → List A → List A → Type 0
+Disjoint {A} xs ys = (x : A) → Contains xs x → ¬ Contains ys x
 
 -- no id is created twice
 abbrev pub CreatedOnce : List Update → Type 0
@@ -110,6 +140,29 @@ pub record Fit (schema : Schema) (log : List Update) : Type 0 where
   pub shaped : All (IsShaped schema) log
   pub once : CreatedOnce log
 
+-- a type of key; an id is of an entity that the schema has
+abbrev pub IsKeyType : Schema → KeyType → Type 0
+IsKeyType schema IntType = ⊤
+IsKeyType schema TextType = ⊤
+IsKeyType schema (IdType entity) = entity < length schema.entities
+
+abbrev pub AreKeyTypes : Schema → List KeyType → Type 0
+AreKeyTypes schema types = (length types ≤ most_keys) × All (IsKeyType schema) types
+
+-- the keys that the owner gives a property: a global has none, an array its own, and an entity the one id
+abbrev pub AreOwnersKeys : Owner → List KeyType → Type 0
+AreOwnersKeys Global types = types ≡ []
+AreOwnersKeys (Array name) types = ⊤
+AreOwnersKeys (EntityOwner entity) types = types ≡ IdType entity ∷ []
+
+-- a schema that a source may declare: each key has a type, and each property the keys of its owner
+pub record IsSchema (schema : Schema) : Type 0 where
+  pub few_properties : length schema.properties ≤ 256
+  pub few_entities : length schema.entities ≤ 256
+  pub property_keys : All (λ property. AreKeyTypes schema property.keys) schema.properties
+  pub owners_keys : All (λ property. AreOwnersKeys property.owner property.keys) schema.properties
+  pub entity_keys : All (λ entity. AreKeyTypes schema entity.keys) schema.entities
+
 module _ where
   abbrev seats : Schema
   seats = record { properties = record { name = 119 ∷ []; owner = Array (83 ∷ []); cell = TextCell; keys = IntType ∷ [] } ∷ []; entities = [] }
@@ -118,7 +171,7 @@ module _ where
   example_shaped = ((lit< tt, (lit≤ tt, (record { sfits = lit< tt }, tt))), (lit≤ tt, All-nil IsPrintable))
 
   -- neither another type of key, nor another number of keys, nor another type's change
-  pub example_no_shape : (IsShaped seats (Cell 0 (TextKey [] ∷ []) (SetText [])) → ⊥) × (IsShaped seats (Cell 0 [] (SetText [])) → ⊥) × (IsShaped seats (Cell 0 (IntKey (pos 1) ∷ []) (Add (pos 1))) → ⊥) × (IsShaped seats (Cell 1 (IntKey (pos 1) ∷ []) (SetText [])) → ⊥)
+  pub example_no_shape : (¬ IsShaped seats (Cell 0 (TextKey [] ∷ []) (SetText []))) × (¬ IsShaped seats (Cell 0 [] (SetText []))) × (¬ IsShaped seats (Cell 0 (IntKey (pos 1) ∷ []) (Add (pos 1)))) × ¬ IsShaped seats (Cell 1 (IntKey (pos 1) ∷ []) (SetText []))
   example_no_shape = (λ h. h.0.1.1.0, λ h. h.0.1.1, λ h. h.1, λ h. h.0.1)
 
   abbrev first : Id
@@ -127,6 +180,62 @@ module _ where
   -- a seat may be asked for, a property that isn't there not; a seat's value is a text and no integer
   pub example_asked : IsShapedQuery seats (Get 0 (IntKey (pos 1) ∷ [])) × (¬ IsShapedQuery seats (Entries 1)) × IsShapedAnswer seats (Alive first) (Truth true) × IsShapedAnswer seats (Get 0 (IntKey (pos 1) ∷ [])) (Text []) × ¬ IsShapedAnswer seats (Get 0 (IntKey (pos 1) ∷ [])) (Int (pos 1))
   example_asked = ((lit< tt, (lit≤ tt, (record { sfits = lit< tt }, tt))), λ h. lt→ltb 1 1 h.1, tt, (lit≤ tt, All-nil IsPrintable), λ h. h)
+
+  -- a truth value may be printed, and a list of ids may not
+  pub example_said : IsSaid (Truth true) × (¬ IsSaid (Ids []))
+  example_said = (tt, λ h. h)
+
+  -- a seat that is asked for isn't an integer, and a list may be answered but not printed
+  pub example_events : IsShapedEvent seats (Do (Cell 0 (IntKey (pos 1) ∷ []) (SetText []))) × IsShapedEvent seats (Ask (Entries 0) (Tuples [])) × (¬ IsShapedEvent seats (Ask (Get 0 (IntKey (pos 1) ∷ [])) (Int (pos 1)))) × ¬ IsShapedEvent seats (Say (Tuples []))
+  example_events = (example_shaped, ((lit< tt, lit< tt), All-nil (IsCell seats 0)), λ h. h.1, λ h. h)
+
+  abbrev kept_by : Owner → List KeyType → Property
+  kept_by owner types = record { name = 119 ∷ []; owner = owner; cell = TextCell; keys = types }
+
+  abbrev customer : Entity
+  customer = record { name = 67 ∷ []; keys = [] }
+
+  abbrev schema_of : Property → Schema
+  schema_of property = record { properties = property ∷ []; entities = customer ∷ [] }
+
+  alone : {A : Type 0} (P : A → Type 0) (x : A) → P x → All P (x ∷ [])
+  alone P x h = All-cons P x [] h (All-nil P)
+
+  abbrev of_customers : Schema
+  of_customers = schema_of (kept_by (EntityOwner 0) (IdType 0 ∷ []))
+
+  -- a text of each customer
+  pub example_schema : IsSchema of_customers
+  example_schema = record {
+    few_properties = lit≤ tt;
+    few_entities = lit≤ tt;
+    property_keys = alone (λ (p : Property). AreKeyTypes of_customers p.keys) (kept_by (EntityOwner 0) (IdType 0 ∷ [])) (lit≤ tt, alone (IsKeyType of_customers) (IdType 0) (lit< tt));
+    owners_keys = alone (λ (p : Property). AreOwnersKeys p.owner p.keys) (kept_by (EntityOwner 0) (IdType 0 ∷ [])) refl;
+    entity_keys = alone (λ (e : Entity). AreKeyTypes of_customers e.keys) customer (lit≤ tt, All-nil (IsKeyType of_customers));
+  }
+
+  -- a global with a key, a text kept by another entity's id, and keys too many or of an entity that isn't there
+  pub example_no_schema : (¬ IsSchema (schema_of (kept_by Global (IntType ∷ [])))) × (¬ IsSchema (schema_of (kept_by (EntityOwner 1) (IdType 0 ∷ [])))) × (¬ IsSchema (schema_of (kept_by (Array (83 ∷ [])) (IdType 1 ∷ [])))) × ¬ IsSchema (schema_of (kept_by (Array (83 ∷ [])) (IntType ∷ IntType ∷ IntType ∷ IntType ∷ [])))
+  example_no_schema = (
+    λ h. suc-ne-zero 0 (ap length (owned h)),
+    λ h. suc-ne-zero 0 (sym (ap entity_of (owned h))),
+    λ h. lt→ltb 1 1 (All-head (IsKeyType (schema_of (kept_by (Array (83 ∷ [])) (IdType 1 ∷ [])))) (IdType 1) [] (typed h).1),
+    λ h. le→leb 4 3 (typed h).0,
+  )
+    where
+      entity_of : List KeyType → ℕ
+      entity_of (IdType entity ∷ types) = entity
+      entity_of _ = 0
+
+      owned : {p : Property} → IsSchema (schema_of p) → AreOwnersKeys p.owner p.keys
+      owned {p = p} h = All-head (λ (q : Property). AreOwnersKeys q.owner q.keys) p [] h.owners_keys
+
+      typed : {p : Property} → IsSchema (schema_of p) → AreKeyTypes (schema_of p) p.keys
+      typed {p = p} h = All-head (λ (q : Property). AreKeyTypes (schema_of p) q.keys) p [] h.property_keys
+
+  -- nothing is a member of the empty list, and an id is a member of both lists that have it
+  pub example_disjoint : Disjoint (first ∷ []) [] × ¬ Disjoint (first ∷ []) (first ∷ [])
+  example_disjoint = (λ x h k. not-suc-le-zero k.1, λ h. h first (0, lit< tt, refl) (0, lit< tt, refl))
 
   -- a log with one seat taken is fit, and one that creates an id twice isn't
   pub example_fit : Fit seats (Cell 0 (IntKey (pos 1) ∷ []) (SetText []) ∷ []) × ¬ CreatedOnce (Create first 0 [] ∷ Create first 0 [] ∷ [])
