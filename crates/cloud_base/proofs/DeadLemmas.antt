@@ -1,23 +1,25 @@
 -- The test for dead ids meets the chains, and which logs have the same dead ids.
-use Rattle.std.proofs.Common.{◌≡◌, refl, sym, ◌∙◌, ap, subst, ℕ, zero, suc, ◌<◌, ◌≤◌, Bool, true, false, ◌||◌, List, [], ◌∷◌, ◌++◌, length, inl, inr, arith, Option, Some, None}
+use Rattle.std.proofs.Common.{◌≡◌, refl, sym, ◌∙◌, ap, subst, ℕ, zero, suc, ◌<◌, ◌≤◌, Bool, true, false, ◌||◌, cond, List, [], ◌∷◌, ◌++◌, length, inl, inr, arith, Option, Some, None}
 use Rattle.std.specs.Prelude.{◌⊎◌, Contains}
 use Rattle.std.specs.Bool.{Decides}
 use Rattle.std.specs.List.{list_any}
 use Rattle.std.proofs.lemmas.Bool.{cases_Bool, or_cases, false≢true}
 use Rattle.std.proofs.lemmas.Bool.Decides.{same_from_decides}
-use Rattle.std.proofs.lemmas.List.Elements.{Contains-append_left}
+use Rattle.std.specs.Option.{option_or}
 use Rattle.cloud_base.specs.Values.{Id}
 use Rattle.cloud_base.specs.Order.{same_id}
 use Rattle.cloud_base.specs.Log.{Creation, of_cell, creation, created, is_deleted, parents, parents_of, ids_of}
 use Rattle.cloud_base.specs.Dead.{Chain, Dead, dead_within, is_dead, has_dead}
 use Rattle.cloud_base.specs.Alike.{Alike, IsPart}
 use Rattle.cloud_base.specs.Shaped.{CreatedOnce}
+use Rattle.cloud_base.specs.Leads.{LeadsIn, Leads}
 use Rattle.cloud_base.specs.declared.key.Key.{Key}
+use Rattle.cloud_base.specs.declared.update.CellChange.{CellChange}
 use Rattle.cloud_base.specs.declared.update.Update.{Update}
-use Rattle.cloud_base.specs.declared.update.Update.TheVariants.{Create, Delete}
-use Rattle.cloud_base.proofs.OrderLemmas.{same_id_decides}
+use Rattle.cloud_base.specs.declared.update.Update.TheVariants.{Cell, Create, Delete}
+use Rattle.cloud_base.proofs.OrderLemmas.{same_id_decides, same_id_itself}
 use Rattle.cloud_base.proofs.SortedLemmas.{here, there, none_in, split_member}
-use Rattle.cloud_base.proofs.LogLemmas.{deleted_member, member_deleted, created_member, member_created, without, deleted_without, creation_without_itself, creation_without, one_fewer, or_right}
+use Rattle.cloud_base.proofs.LogLemmas.{deleted_member, member_deleted, created_member, member_created, without, deleted_without, creation_without_itself, creation_without, one_fewer, or_right, deleted_parts, creation_parts, creation_stays}
 
 -- ---- a test of some member
 
@@ -93,7 +95,7 @@ lift log u (suc n) id c = elim (cases_Bool (same_id u id)) [
 ]
 
 -- what has a parent was created
-made : (o : Option Creation) (next : Id) → Contains (parents_of o) next → (c : Creation) × (o ≡ Some c)
+pub made : (o : Option Creation) (next : Id) → Contains (parents_of o) next → (c : Creation) × (o ≡ Some c)
 made None next h = absurd (none_in next h)
 made (Some c) next h = (c, refl)
 
@@ -134,25 +136,22 @@ dead_same log other id f g once once' =
     let b = is_dead_decides other id in
     same_from_decides (is_dead log id) (is_dead other id) a (λ h. dead_grows other log id g once (b.0 h), λ d. b.1 (dead_grows log other id f once' d))
 
--- ---- more of a log, and logs that are alike
+-- ---- more of a log, and logs with the same creations and deletions
 
-pub part_of_more : (log more : List Update) → IsPart log (log ++ more)
-part_of_more log more u h = Contains-append_left log more u h
+chain_linked : (log other : List Update) → ((id : Id) → creation id log ≡ creation id other) → ((id : Id) → is_deleted id log ≡ is_deleted id other) → (n : ℕ) (id : Id) → Chain log n id → Chain other n id
+chain_linked log other f g zero id c = sym (g id) ∙ c
+chain_linked log other f g (suc n) id c = (c.0, subst (λ d. Contains (parents_of d) c.0) (f id) c.1, chain_linked log other f g n c.0 c.2)
 
-chain_alike : (log other : List Update) (n : ℕ) (id : Id) → Alike log other → Chain log n id → Chain other n id
-chain_alike log other zero id a c = sym (a.deletions id) ∙ c
-chain_alike log other (suc n) id a c = (c.0, subst (λ d. Contains (parents_of d) c.0) (a.creations id) c.1, chain_alike log other n c.0 a c.2)
-
-pub flip : (log other : List Update) → Alike log other → Alike other log
-flip log other a = record { changes = λ p ks. sym (a.changes p ks); creations = λ id. sym (a.creations id); deletions = λ id. sym (a.deletions id) }
-
-pub dead_alike : (log other : List Update) (id : Id) → Alike log other → is_dead log id ≡ is_dead other id
-dead_alike log other id a =
+pub dead_linked : (log other : List Update) → ((id : Id) → creation id log ≡ creation id other) → ((id : Id) → is_deleted id log ≡ is_deleted id other) → (id : Id) → is_dead log id ≡ is_dead other id
+dead_linked log other f g id =
     let p = is_dead_decides log id in
     let q = is_dead_decides other id in
-    let there' : Dead log id → Dead other id = λ d. dead_from_chain other d.0 id (chain_alike log other d.0 id a d.2) in
-    let back : Dead other id → Dead log id = λ d. dead_from_chain log d.0 id (chain_alike other log d.0 id (flip log other a) d.2) in
-    same_from_decides (is_dead log id) (is_dead other id) p (λ h. back (q.0 h), λ d. q.1 (there' d))
+    let on : Dead log id → Dead other id = λ d. dead_from_chain other d.0 id (chain_linked log other f g d.0 id d.2) in
+    let back : Dead other id → Dead log id = λ d. dead_from_chain log d.0 id (chain_linked other log (λ v. sym (f v)) (λ v. sym (g v)) d.0 id d.2) in
+    same_from_decides (is_dead log id) (is_dead other id) p (λ h. back (q.0 h), λ d. q.1 (on d))
+
+pub dead_alike : (log other : List Update) (id : Id) → Alike log other → is_dead log id ≡ is_dead other id
+dead_alike log other id a = dead_linked log other a.creations a.deletions id
 
 -- ---- keys of which one is dead
 
@@ -162,6 +161,16 @@ same_any p q (x ∷ xs) f = let a = f x (here x xs) in let b = same_any p q xs (
 
 pub has_dead_same : (log other : List Update) (keys : List Key) → ((id : Id) → Contains (ids_of keys) id → is_dead log id ≡ is_dead other id) → has_dead log keys ≡ has_dead other keys
 has_dead_same log other keys f = same_any (is_dead log) (is_dead other) (ids_of keys) f
+
+-- keys of which none is dead in the whole have none dead in a part
+pub keys_live : (small large : List Update) (keys : List Key) → IsPart small large → CreatedOnce large → has_dead large keys ≡ false → has_dead small keys ≡ false
+keys_live small large keys part once live = elim (cases_Bool (has_dead small keys)) [
+  | inr f ↦ f
+  | inl t ↦
+      let w = some_member (is_dead small) (ids_of keys) t in
+      let d = dead_grows small large w.0 part once ((is_dead_decides small w.0).0 w.2) in
+      absurd (false≢true (sym live ∙ member_some (is_dead large) (ids_of keys) w.0 w.1 ((is_dead_decides large w.0).1 d)))
+]
 
 -- ---- logs of the same members
 
@@ -183,3 +192,148 @@ alike_members log other once once' f g changes = record {
   creations = λ id. one_creation id log other (creation id log) (creation id other) refl refl f g once once';
   deletions = λ id. deleted_same id log other (is_deleted id log) refl f g;
 }
+
+-- ---- after a change of a cell
+
+or_nothing : {A : Type 0} (o : Option A) → option_or o None ≡ o
+or_nothing None = refl
+or_nothing (Some x) = refl
+
+or_false : (b : Bool) → (b || false) ≡ b
+or_false true = refl
+or_false false = refl
+
+-- a change of a cell kills nothing
+pub dead_after_cell : (log : List Update) (property : ℕ) (keys : List Key) (change : CellChange) (id : Id) → is_dead (log ++ Cell property keys change ∷ []) id ≡ is_dead log id
+dead_after_cell log property keys change id =
+    dead_linked (log ++ Cell property keys change ∷ []) log
+    (λ v. creation_parts v log (Cell property keys change ∷ []) ∙ or_nothing (creation v log))
+    (λ v. deleted_parts v log (Cell property keys change ∷ []) ∙ or_false (is_deleted v log)) id
+
+-- ---- chains in a longer log
+
+-- a parent stays one
+pub parent_stays : (log more : List Update) (id next : Id) → Contains (parents log id) next → Contains (parents (log ++ more) id) next
+parent_stays log more id next h =
+    let w = made (creation id log) next h in
+    subst (λ d. Contains (parents_of d) next) (w.1 ∙ sym (creation_stays id log more w.0 w.1)) h
+
+pub chain_stays : (log more : List Update) (n : ℕ) (id : Id) → Chain log n id → Chain (log ++ more) n id
+chain_stays log more zero id c = deleted_parts id log more ∙ ap (λ b. b || is_deleted id more) c
+chain_stays log more (suc n) id c = (c.0, parent_stays log more id c.0 c.1, chain_stays log more n c.0 c.2)
+
+pub dead_stays : (log more : List Update) (id : Id) → Dead log id → Dead (log ++ more) id
+dead_stays log more id d = dead_from_chain (log ++ more) d.0 id (chain_stays log more d.0 id d.2)
+
+pub leads_stays : (log more : List Update) (n : ℕ) (id root : Id) → LeadsIn log n id root → LeadsIn (log ++ more) n id root
+leads_stays log more zero id root e = e
+leads_stays log more (suc n) id root l = (l.0, parent_stays log more id l.0 l.1, leads_stays log more n l.0 root l.2)
+
+-- what leads to a dead id is dead
+chain_led : (log : List Update) (n m : ℕ) (id root : Id) → LeadsIn log n id root → Chain log m root → Dead log id
+chain_led log zero m id root e c = dead_from_chain log m id (subst (Chain log m) (sym e) c)
+chain_led log (suc n) m id root l c = let d = chain_led log n m l.0 root l.2 c in dead_from_chain log (suc d.0) id (l.0, l.1, d.2)
+
+pub dead_led : (log : List Update) (id root : Id) → Leads log id root → Dead log root → Dead log id
+dead_led log id root l d = chain_led log l.0 d.0 id root l.1 d.2
+
+-- one parent more
+pub leads_more : (log : List Update) (id next root : Id) → Contains (parents log id) next → Leads log next root → Leads log id root
+leads_more log id next root p l = (suc l.0, (next, p, l.1))
+
+pub dead_more : (log : List Update) (id next : Id) → Contains (parents log id) next → Dead log next → Dead log id
+dead_more log id next p d = dead_from_chain log (suc d.0) id (next, p, d.2)
+
+-- ---- after a deletion
+
+deleted_then : (log : List Update) (d id : Id) → is_deleted id (log ++ Delete d ∷ []) ≡ (is_deleted id log || same_id d id)
+deleted_then log d id = deleted_parts id log (Delete d ∷ []) ∙ ap (λ b. is_deleted id log || b) (or_false (same_id d id))
+
+parents_then : (log : List Update) (d id next : Id) → Contains (parents (log ++ Delete d ∷ []) id) next → Contains (parents log id) next
+parents_then log d id next h = subst (λ o. Contains (parents_of o) next) (creation_parts id log (Delete d ∷ []) ∙ or_nothing (creation id log)) h
+
+chain_after_delete : (log : List Update) (d : Id) (n : ℕ) (id : Id) → Chain (log ++ Delete d ∷ []) n id → Dead log id ⊎ Leads log id d
+chain_after_delete log d zero id c = elim (or_cases (is_deleted id log) (same_id d id) (sym (deleted_then log d id) ∙ c)) [
+  | inl t ↦ inl (dead_from_chain log 0 id t)
+  | inr t ↦ inr (0, sym ((same_id_decides d id).0 t))
+]
+chain_after_delete log d (suc n) id c =
+    let p = parents_then log d id c.0 c.1 in
+    elim (chain_after_delete log d n c.0 c.2) [
+      | inl w ↦ inl (dead_more log id c.0 p w)
+      | inr w ↦ inr (leads_more log id c.0 d p w)
+    ]
+
+-- dead after a deletion is what was dead before, and what leads to the deleted id
+pub dead_after_delete : (log : List Update) (d id : Id) → Dead (log ++ Delete d ∷ []) id → Dead log id ⊎ Leads log id d
+dead_after_delete log d id h = chain_after_delete log d h.0 id h.2
+
+dead_by_delete : (log : List Update) (d id : Id) → Leads log id d → Dead (log ++ Delete d ∷ []) id
+dead_by_delete log d id l =
+    let whole = log ++ Delete d ∷ [] in
+    dead_led whole id d (l.0, leads_stays log (Delete d ∷ []) l.0 id d l.1)
+    (dead_from_chain whole 0 d (deleted_then log d d ∙ ap (λ b. is_deleted d log || b) (same_id_itself d) ∙ or_right (is_deleted d log)))
+
+pub delete_kills : (log : List Update) (d id : Id) → Dead log id ⊎ Leads log id d → Dead (log ++ Delete d ∷ []) id
+delete_kills log d id h = elim h [ inl w ↦ dead_stays log (Delete d ∷ []) id w | inr l ↦ dead_by_delete log d id l ]
+
+-- ---- after a creation
+
+-- some key is dead
+abbrev pub DeadKey : List Update → List Key → Type 0
+DeadKey log keys = (next : Id) × Contains (ids_of keys) next × Dead log next
+
+pub created_then : (log : List Update) (u : Id) (e : ℕ) (ks : List Key) (id : Id) → same_id u id ≡ false → creation id (log ++ Create u e ks ∷ []) ≡ creation id log
+created_then log u e ks id n =
+    creation_parts id log (Create u e ks ∷ []) ∙ ap (λ b. option_or (creation id log) (cond b (Some (record { entity = e; keys = ks })) None)) n ∙ or_nothing (creation id log)
+
+pub created_itself : (log : List Update) (u : Id) (e : ℕ) (ks : List Key) → creation u log ≡ None → creation u (log ++ Create u e ks ∷ []) ≡ Some (record { entity = e; keys = ks })
+created_itself log u e ks new =
+    creation_parts u log (Create u e ks ∷ []) ∙ ap (λ o. option_or o (creation u (Create u e ks ∷ []))) new
+    ∙ ap (λ b. cond b (Some (record { entity = e; keys = ks })) None) (same_id_itself u)
+
+deleted_as_before : (log : List Update) (u : Id) (e : ℕ) (ks : List Key) (id : Id) → is_deleted id (log ++ Create u e ks ∷ []) ≡ is_deleted id log
+deleted_as_before log u e ks id = deleted_parts id log (Create u e ks ∷ []) ∙ or_false (is_deleted id log)
+
+chain_after_create : (log : List Update) (u : Id) (e : ℕ) (ks : List Key) → creation u log ≡ None → (n : ℕ) (id : Id) → Chain (log ++ Create u e ks ∷ []) n id
+    → Dead log id ⊎ (Leads log id u × DeadKey log ks)
+chain_after_create log u e ks new zero id c = inl (dead_from_chain log 0 id (sym (deleted_as_before log u e ks id) ∙ c))
+chain_after_create log u e ks new (suc n) id c = elim (cases_Bool (same_id u id)) [
+  | inl t ↦
+      let same : u ≡ id = (same_id_decides u id).0 t in
+      let at : Leads log id u = (0, sym same) in
+      let key : Contains (ids_of ks) c.0 = subst (λ o. Contains (parents_of o) c.0) (created_itself log u e ks new) (subst (λ v. Contains (parents (log ++ Create u e ks ∷ []) v) c.0) (sym same) c.1) in
+      elim (chain_after_create log u e ks new n c.0 c.2) [
+        | inl w ↦ inr (at, (c.0, key, w))
+        | inr w ↦ inr (at, w.1)
+      ]
+  | inr f ↦
+      let p : Contains (parents log id) c.0 = subst (λ o. Contains (parents_of o) c.0) (created_then log u e ks id f) c.1 in
+      elim (chain_after_create log u e ks new n c.0 c.2) [
+        | inl w ↦ inl (dead_more log id c.0 p w)
+        | inr w ↦ inr (leads_more log id c.0 u p w.0, w.1)
+      ]
+]
+
+pub has_dead_key : (log : List Update) (keys : List Key) → has_dead log keys ≡ true → DeadKey log keys
+has_dead_key log keys h = let w = some_member (is_dead log) (ids_of keys) h in (w.0, w.1, (is_dead_decides log w.0).0 w.2)
+
+pub dead_key_has : (log : List Update) (keys : List Key) → DeadKey log keys → has_dead log keys ≡ true
+dead_key_has log keys k = member_some (is_dead log) (ids_of keys) k.0 k.1 ((is_dead_decides log k.0).1 k.2)
+
+-- dead after a creation is what was dead before, and where a key is dead what leads to the created id
+pub dead_after_create : (log : List Update) (u : Id) (e : ℕ) (ks : List Key) (id : Id) → creation u log ≡ None → Dead (log ++ Create u e ks ∷ []) id
+    → Dead log id ⊎ (Leads log id u × (has_dead log ks ≡ true))
+dead_after_create log u e ks id new h = elim (chain_after_create log u e ks new h.0 id h.2) [ inl w ↦ inl w | inr w ↦ inr (w.0, dead_key_has log ks w.1) ]
+
+dead_by_create : (log : List Update) (u : Id) (e : ℕ) (ks : List Key) (id : Id) → creation u log ≡ None → Leads log id u → DeadKey log ks → Dead (log ++ Create u e ks ∷ []) id
+dead_by_create log u e ks id new l k =
+    let whole = log ++ Create u e ks ∷ [] in
+    dead_led whole id u (l.0, leads_stays log (Create u e ks ∷ []) l.0 id u l.1)
+    (dead_more whole u k.0 (subst (λ o. Contains (parents_of o) k.0) (sym (created_itself log u e ks new)) k.1) (dead_stays log (Create u e ks ∷ []) k.0 k.2))
+
+pub create_kills : (log : List Update) (u : Id) (e : ℕ) (ks : List Key) (id : Id) → creation u log ≡ None → Dead log id ⊎ (Leads log id u × (has_dead log ks ≡ true)) → Dead (log ++ Create u e ks ∷ []) id
+create_kills log u e ks id new h = elim h [ inl w ↦ dead_stays log (Create u e ks ∷ []) id w | inr l ↦ dead_by_create log u e ks id new l.0 (has_dead_key log ks l.1) ]
+
+pub deleted_creates : (log : List Update) (d id : Id) → creation id (log ++ Delete d ∷ []) ≡ creation id log
+deleted_creates log d id = creation_parts id log (Delete d ∷ []) ∙ or_nothing (creation id log)

@@ -1,8 +1,9 @@
+pub mod AnswerLemmas
+pub mod DeadLemmas
+pub mod LogLemmas
 pub mod Names
-mod AnswerLemmas
-mod DeadLemmas
-mod LogLemmas
-mod OrderLemmas
-mod PlainLemmas
-mod SortedLemmas
-mod TextLemmas
+pub mod OrderLemmas
+pub mod PlainLemmas
+pub mod ShapedLemmas
+pub mod SortedLemmas
+pub mod TextLemmas

@@ -1,13 +1,18 @@
 -- What a log's creations and deletions are, by its members.
 use Rattle.std.proofs.Common.{◌≡◌, refl, sym, ◌∙◌, ap, subst, ℕ, suc, ◌<◌, ◌≤◌, Bool, true, false, ◌&&◌, ◌||◌, cond, List, [], ◌∷◌, ◌++◌, length, inl, inr, arith, Option, Some, None}
-use Rattle.std.specs.Prelude.{Contains, ◌==◌}
+use Rattle.std.specs.Prelude.{All, Contains, ◌==◌, is_some, if◌then◌else◌}
 use Rattle.std.specs.Option.{option_or}
-use Rattle.std.proofs.lemmas.Bool.{cases_Bool}
+use Rattle.std.specs.Bool.{Decides}
+use Rattle.std.proofs.lemmas.Bool.{cases_Bool, false≢true}
+use Rattle.std.proofs.lemmas.List.{append_assoc, take_at, drop_at}
+use Rattle.std.proofs.lemmas.List.Elements.{Contains-append_left, Contains-append_right, Contains-append_cases, All-nil, All-cons, All-take, All-drop, All-append}
 use Rattle.cloud_base.specs.Values.{Id}
 use Rattle.cloud_base.specs.Order.{same_id, same_keys}
-use Rattle.cloud_base.specs.Log.{Creation, of_cell, touched, creation, created, is_deleted}
-use Rattle.cloud_base.specs.Shaped.{CreatedOnce}
+use Rattle.cloud_base.specs.Log.{Creation, of_cell, touched, creation, created, is_created, is_deleted}
+use Rattle.cloud_base.specs.Alike.{IsPart}
+use Rattle.cloud_base.specs.Shaped.{CreatedOnce, NoRepeat, Disjoint, Fit, IsShaped}
 use Rattle.cloud_base.specs.declared.key.Key.{Key}
+use Rattle.cloud_base.specs.declared.schema.Schema.{Schema}
 use Rattle.cloud_base.specs.declared.update.Update.{Update}
 use Rattle.cloud_base.specs.declared.update.Update.TheVariants.{Cell, Create, Delete}
 use Rattle.cloud_base.proofs.OrderLemmas.{same_id_decides}
@@ -201,3 +206,98 @@ creation_parts id (Create v e ks ∷ log) more =
     let first : Option Creation = Some (record { entity = e; keys = ks }) in
     let P : Bool → Type 0 = λ b. cond b first (creation id (log ++ more)) ≡ option_or (cond b first (creation id log)) (creation id more) in
     elim (same_id v id) as P [ true ↦ refl | false ↦ creation_parts id log more ]
+
+-- ---- what is created
+
+contains_created : (id : Id) (log : List Update) → Contains (created log) id → is_created id log ≡ true
+contains_created id [] h = absurd (none_in id h)
+contains_created id (Cell p ks c ∷ log) h = contains_created id log h
+contains_created id (Delete v ∷ log) h = contains_created id log h
+contains_created id (Create v e ks ∷ log) h =
+    let first : Option Creation = Some (record { entity = e; keys = ks }) in
+    let P : Bool → Type 0 = λ b. is_some (if b then first else creation id log) ≡ true in
+    elim (split_member v id (created log) h) [
+      | inl s ↦ subst P (sym ((same_id_decides v id).1 s)) refl
+      | inr m ↦ let rest = contains_created id log m in elim (same_id v id) as P [ true ↦ refl | false ↦ rest ]
+    ]
+
+created_has : (id : Id) (log : List Update) (o : Option Creation) → creation id log ≡ o → is_some o ≡ true → Contains (created log) id
+created_has id log (Some c) e t = created_contains id c.entity c.keys log (created_member id log c e)
+created_has id log None e t = absurd (false≢true t)
+
+-- the test finds the created ids
+pub is_created_decides : (id : Id) (log : List Update) → Decides (is_created id log) (Contains (created log) id)
+is_created_decides id log = (λ t. created_has id log (creation id log) refl t, contains_created id log)
+
+pub new_is_none : (id : Id) (log : List Update) → creation id log ≡ None → Contains (created log) id → ⊥
+new_is_none id log e h = false≢true (ap is_some (sym e) ∙ contains_created id log h)
+
+-- ---- parts
+
+pub part_append : (first second whole : List Update) → IsPart first whole → IsPart second whole → IsPart (first ++ second) whole
+part_append first second whole f g u h = elim (Contains-append_cases first second u h) [ inl m ↦ f u m | inr m ↦ g u m ]
+
+pub part_left : (log more : List Update) → IsPart log (log ++ more)
+part_left log more u h = Contains-append_left log more u h
+
+pub part_right : (log more : List Update) → IsPart more (log ++ more)
+part_right log more u h = Contains-append_right log more u h
+
+-- what the joined one knows is known after the join
+pub part_joined : (base delta before after : List Update) → IsPart before (base ++ delta) → IsPart (before ++ after) (base ++ (delta ++ after))
+part_joined base delta before after f =
+    let assoc : base ++ delta ++ after ≡ base ++ (delta ++ after) = append_assoc base delta after in
+    subst (IsPart (before ++ after)) assoc
+    (part_append before after (base ++ delta ++ after) (λ u h. part_left (base ++ delta) after u (f u h)) (part_right (base ++ delta) after))
+
+-- ---- no id created twice
+
+pub no_repeat_parts : {A : Type 0} (xs ys : List A) → NoRepeat (xs ++ ys) → NoRepeat xs × NoRepeat ys × Disjoint xs ys
+no_repeat_parts [] ys n = (tt, n, λ x h k. none_in x h)
+no_repeat_parts (x ∷ xs) ys n =
+    let rest = no_repeat_parts xs ys n.1 in (
+      (λ h. n.0 (Contains-append_left xs ys x h), rest.0),
+      rest.1,
+      λ y h k. elim (split_member x y xs h) [ inl e ↦ n.0 (Contains-append_right xs ys x (subst (Contains ys) (sym e) k)) | inr m ↦ rest.2 y m k ],
+    )
+
+pub parts_no_repeat : {A : Type 0} (xs ys : List A) → NoRepeat xs → NoRepeat ys → Disjoint xs ys → NoRepeat (xs ++ ys)
+parts_no_repeat [] ys a b f = b
+parts_no_repeat (x ∷ xs) ys a b f = (
+  λ h. elim (Contains-append_cases xs ys x h) [ inl m ↦ a.0 m | inr m ↦ f x (here x xs) m ],
+  parts_no_repeat xs ys a.1 b (λ y h k. f y (there x y xs h) k),
+)
+
+-- a log of two parts creates no id twice where neither part does and none is created in both
+pub created_once_parts : (log more : List Update) → CreatedOnce (log ++ more) → CreatedOnce log × CreatedOnce more × Disjoint (created log) (created more)
+created_once_parts log more once = no_repeat_parts (created log) (created more) (subst NoRepeat (created_parts log more) once)
+
+pub parts_created_once : (log more : List Update) → CreatedOnce log → CreatedOnce more → Disjoint (created log) (created more) → CreatedOnce (log ++ more)
+parts_created_once log more a b f = subst NoRepeat (sym (created_parts log more)) (parts_no_repeat (created log) (created more) a b f)
+
+-- ---- fit logs
+
+pub fit_parts : (schema : Schema) (log more : List Update) → Fit schema (log ++ more) → Fit schema log × Fit schema more × Disjoint (created log) (created more)
+fit_parts schema log more fit =
+    let once = created_once_parts log more fit.once in (
+      record { shaped = subst (All (IsShaped schema)) (take_at log more (length log) refl) (All-take (IsShaped schema) (length log) (log ++ more) fit.shaped); once = once.0 },
+      record { shaped = subst (All (IsShaped schema)) (drop_at log more (length log) refl) (All-drop (IsShaped schema) (length log) (log ++ more) fit.shaped); once = once.1 },
+      once.2,
+    )
+
+pub parts_fit : (schema : Schema) (log more : List Update) → Fit schema log → Fit schema more → Disjoint (created log) (created more) → Fit schema (log ++ more)
+parts_fit schema log more f g d = record { shaped = All-append (IsShaped schema) log more f.shaped g.shaped; once = parts_created_once log more f.once g.once d }
+
+pub fit_front : (schema : Schema) (log more : List Update) → Fit schema (log ++ more) → Fit schema log
+fit_front schema log more fit = (fit_parts schema log more fit).0
+
+one_once : (update : Update) → CreatedOnce (update ∷ [])
+one_once (Cell p ks c) = tt
+one_once (Create id e ks) = (none_in id, tt)
+one_once (Delete id) = tt
+
+-- one update more, which creates no id that was created
+pub fit_one_more : (schema : Schema) (log : List Update) (update : Update) → Fit schema log → IsShaped schema update → ((id : Id) → Contains (created (update ∷ [])) id → creation id log ≡ None) → Fit schema (log ++ update ∷ [])
+fit_one_more schema log update fit shaped new =
+    let alone : Fit schema (update ∷ []) = record { shaped = All-cons (IsShaped schema) update [] shaped (All-nil (IsShaped schema)); once = one_once update } in
+    parts_fit schema log (update ∷ []) fit alone (λ id h k. new_is_none id log (new id k) h)

@@ -4,6 +4,7 @@ pub mod Alike
 pub mod Answer
 pub mod Dead
 pub mod Events
+pub mod Leads
 pub mod Log
 pub mod Order
 pub mod PlainCell

@@ -23,8 +23,9 @@ pub use end::End;
 pub use in_memory::{MemSink, MemSource};
 pub use key::{Key, Keys, MOST_KEYS, Uid};
 pub use laws::{
-    alike_answers, answers_list, ascending_lists, dead_by_chains, dead_by_members, dead_grows,
-    derived_orders, get_depends_on, log_parts, plain_steps, total_orders,
+    alike_answers, answers_list, ascending_lists, creations_once, dead_after, dead_by_chains,
+    dead_by_members, dead_grows, default_values, derived_orders, fit_logs, get_depends_on,
+    log_parts, parts_of_logs, plain_steps, shaped_answers, total_orders,
 };
 pub use memory::Memory;
 pub use name::Name;

@@ -1,5 +1,9 @@
-use Rattle.cloud_base.proofs.DeadLemmas.{dead_grows}
+use Rattle.cloud_base.proofs.DeadLemmas.{dead_grows, keys_live, dead_stays}
 use Rattle.cloud_base.proofs.laws.dead_grows.Goals as goal
 
 pub returns : goal.returns
-returns c = λ schema log whole id fit part. dead_grows log whole id part fit.once
+returns c = record {
+  ids = λ log whole id once part. dead_grows log whole id part once;
+  keys = λ log whole keys once part. keys_live log whole keys part once;
+  more = dead_stays;
+}
