@@ -9,7 +9,8 @@ ghost use Rattle.cloud_base.specs.declared.update.CellChange.{CellChange};
 
 use crate::ids::has_dead;
 use cloud_base::{
-    Answer, CellChange, CellType, Keys, Schema, Text, Update, log_parts, plain_steps,
+    Answer, CellChange, CellType, Keys, Schema, Text, Update, default_values, log_parts,
+    plain_steps,
 };
 
 fn same_keys(one: &Keys, other: &Keys) -> bool
@@ -103,6 +104,7 @@ fn plain_value(cell: CellType, log: &[Update], property: u16, keys: &Keys) -> An
 pub fn value(schema: &Schema, log: &[Update], property: u16, keys: &Keys) -> Answer
     ensures { result ≡ cell_value schema.now log.now property keys.now }
 {
+    default_values();
     let cell = type_of(schema, property);
     if has_dead(log, keys) {
         plain_value(cell, &[], property, keys)
