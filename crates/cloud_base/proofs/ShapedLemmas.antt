@@ -9,8 +9,8 @@ use Rattle.cloud_base.specs.Values.{IsText, IsPrintable}
 use Rattle.cloud_base.specs.Order.{same_keys}
 use Rattle.cloud_base.specs.Log.{of_cell, touched, created}
 use Rattle.cloud_base.specs.Dead.{has_dead}
-use Rattle.cloud_base.specs.PlainCell.{plain_value, walk_text, if_empty, plain_text, default_of, is_default}
-use Rattle.cloud_base.specs.Shaped.{IsId, IsCell, IsChange, IsValue, IsShaped, IsShapedQuery, IsShapedAnswer, cell_type}
+use Rattle.cloud_base.specs.PlainCell.{ValueKind, Number, Words, value_kind, plain_value, walk_text, if_empty, plain_text, default_of, is_default}
+use Rattle.cloud_base.specs.Shaped.{IsId, IsCell, IsChange, IsOfKind, IsSaid, IsValue, IsShaped, IsShapedQuery, IsShapedAnswer, cell_type}
 use Rattle.cloud_base.specs.Answer.{answer, cell_value, all_ids, entries}
 use Rattle.cloud_base.specs.declared.key.Key.{Key}
 use Rattle.cloud_base.specs.declared.schema.CellType.{CellType}
@@ -63,6 +63,16 @@ pub plain_is_value : (type : CellType) (changes : List CellChange) → All (IsCh
 unfolding plain_value plain_text
 plain_is_value IntCell changes a = int_fits changes
 plain_is_value TextCell changes a = walk_is_text [] changes (default_is_value TextCell) a
+
+kind_is_said : (kind : ValueKind) (value : Answer) → IsOfKind kind value → IsSaid value
+kind_is_said Number (Int n) h = h
+kind_is_said Number value h = absurd h
+kind_is_said Words (Text text) h = h
+kind_is_said Words value h = absurd h
+
+-- a cell's value may be printed
+pub value_is_said : (type : CellType) (value : Answer) → IsValue type value → IsSaid value
+value_is_said type value h = kind_is_said (value_kind type) value h
 
 -- ---- what a shaped log holds
 

@@ -10,7 +10,7 @@ ghost use Rattle.cloud_base.specs.PlainCell.{plain_int, plain_text, plain_value,
 ghost use Rattle.cloud_base.specs.Log.{of_cell, touched, created, creation, is_created, is_deleted, ids_of};
 ghost use Rattle.cloud_base.specs.Dead.{Chain, Dead, is_dead, has_dead};
 ghost use Rattle.cloud_base.specs.Leads.{Leads};
-ghost use Rattle.cloud_base.specs.Shaped.{Fit, CreatedOnce, Disjoint, IsChange, IsShaped, IsShapedQuery, IsShapedAnswer, IsValue};
+ghost use Rattle.cloud_base.specs.Shaped.{Fit, CreatedOnce, Disjoint, IsChange, IsSaid, IsShaped, IsShapedQuery, IsShapedAnswer, IsValue};
 ghost use Rattle.cloud_base.specs.Alike.{Alike, IsPart};
 ghost use Rattle.cloud_base.specs.Answer.{answer, all_ids, entries, is_listed, is_entry};
 ghost use Rattle.cloud_base.specs.declared.key.Key.{Key};
@@ -202,7 +202,7 @@ pub fn answers_list()
 {}
 
 /// What a log of the schema's shape answers to a query of that shape is of that shape, and the
-/// plain value over changes of a type is a value of that type.
+/// plain value over changes of a type is a value of that type. A cell's value may be printed.
 // For the proof that the text of a report tells its answers.
 pub fn shaped_answers()
     ensures answers { (schema : Schema) (log : List Update) (query : Query) →
@@ -210,4 +210,5 @@ pub fn shaped_answers()
         IsShapedAnswer schema query (answer schema log query) }
     ensures values { (type : CellType) (changes : List CellChange) →
         All (IsChange type) changes → IsValue type (plain_value type changes) }
+    ensures said { (type : CellType) (value : Answer) → IsValue type value → IsSaid value }
 {}
