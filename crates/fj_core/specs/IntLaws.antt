@@ -1,14 +1,16 @@
 -- Laws of cells with a number.
 use Rattle.std.proofs.Common.{◌≡◌, zero, suc, ℤ, pos, negsuc, ◌+ℤ◌, neg_ℤ, Bool, true, false, List, [], ◌∷◌, ◌++◌, cond, refl, sym, ◌∙◌, ap, subst, arith, FitsSigned, ◌≢◌}
-use Rattle.std.specs.Prelude.{Option, Some, None, unwrap_or, is_some}
+use Rattle.std.specs.Prelude.{Option, Some, None, map}
 use Rattle.std.specs.Int.{w64, int_wrap}
 use Rattle.std.proofs.lemmas.Int.{ints, int_wrap-add_left, int_wrap-add_right, int_wrap-add_same, int_wrap_fits}
+use Rattle.cloud_base.specs.PlainCell.{last_set, plain_int}
+use Rattle.fj_core.specs.Changes.{of_int}
 use Rattle.fj_core.specs.declared.effect.Effect.{Effect}
 use Rattle.fj_core.specs.declared.effect.Effect.TheVariants as effects
 use Rattle.fj_core.specs.declared.int_cell.IntChange.{IntChange}
 use Rattle.fj_core.specs.declared.int_cell.IntChange.TheVariants.{Add, Set}
 use Rattle.fj_core.specs.declared.int_cell.IntCell.{IntCell}
-use Rattle.fj_core.specs.IntCells.{last_set, has_set, added, int_plain, add_effect, int_effect, IsIntEffect, int_applied, int_combined, StandsWith, IntStands}
+use Rattle.fj_core.specs.IntCells.{has_int_set, added, int_plain, add_effect, int_effect, IsIntEffect, int_applied, int_combined, StandsWith, IntStands}
 
 -- ---- sums
 zero_plus : (a : ℤ) → pos 0 +ℤ a ≡ a
@@ -20,43 +22,56 @@ plus_zero a = omega (arith, ints)
 plus_assoc : (a b c : ℤ) → a +ℤ (b +ℤ c) ≡ (a +ℤ b) +ℤ c
 plus_assoc a b c = omega (arith, ints)
 
+-- what the last set sets the number to, or 0 where there is none
+abbrev start_of : List IntChange → ℤ
+start_of changes = last_set (map of_int changes)
+
 -- ---- a list after a list
--- the last set of two lists, from the last set of each
-later : Option ℤ → Option ℤ → Option ℤ
-later first None = first
-later first (Some n) = Some n
+set_later : (b : Bool) → (b ≡ cond b true false) × (true ≡ cond b true true)
+set_later true = (refl, refl)
+set_later false = (refl, refl)
 
-later_none : (o : Option ℤ) → o ≡ later None o
-unfolding later
-later_none None = refl
-later_none (Some n) = refl
+has_int_set-append : (xs ys : List IntChange) → has_int_set (xs ++ ys) ≡ cond (has_int_set ys) true (has_int_set xs)
+has_int_set-append [] ys = (set_later (has_int_set ys)).0
+has_int_set-append (Add n ∷ xs) ys = has_int_set-append xs ys
+has_int_set-append (Set n ∷ xs) ys = (set_later (has_int_set ys)).1
 
-later_set : (o p : Option ℤ) (n : ℤ) → Some (unwrap_or (later o p) n) ≡ later (Some (unwrap_or o n)) p
-unfolding later
-later_set o None n = refl
-later_set o (Some m) n = refl
+no_start : (changes : List IntChange) → has_int_set changes ≡ false → start_of changes ≡ pos 0
+no_start [] e = refl
+no_start (Add n ∷ changes) e = no_start changes e
+no_start (Set n ∷ changes) e = cc
 
-last_set-append : (xs ys : List IntChange) → last_set (xs ++ ys) ≡ later (last_set xs) (last_set ys)
-last_set-append [] ys = later_none (last_set ys)
-last_set-append (Add n ∷ xs) ys = last_set-append xs ys
-last_set-append (Set n ∷ xs) ys = ap (λ o. Some (unwrap_or o n)) (last_set-append xs ys) ∙ later_set (last_set xs) (last_set ys) n
+start_alone : (b : Bool) (changes : List IntChange) → has_int_set changes ≡ b → start_of changes ≡ cond b (start_of changes) (pos 0)
+start_alone true changes e = refl
+start_alone false changes e = no_start changes e
 
-added_none : (o : Option ℤ) (b : ℤ) → b ≡ cond (is_some o) b (pos 0 +ℤ b)
-added_none None b = sym (zero_plus b)
-added_none (Some n) b = refl
+start_set : (b c : Bool) (first second both n : ℤ) → both ≡ cond c second first → cond (cond c true b) both n ≡ cond c second (cond b first n)
+start_set b true first second both n e = e
+start_set true false first second both n e = e
+start_set false false first second both n e = refl
 
-added_add : (o p : Option ℤ) (n a b c : ℤ) → c ≡ cond (is_some p) b (a +ℤ b)
-    → cond (is_some (later o p)) c (n +ℤ c) ≡ cond (is_some p) b (cond (is_some o) a (n +ℤ a) +ℤ b)
-unfolding later
-added_add None None n a b c e = ap (λ x. n +ℤ x) e ∙ plus_assoc n a b
-added_add (Some m) None n a b c e = e
-added_add o (Some k) n a b c e = e
+start_of-append : (xs ys : List IntChange) → start_of (xs ++ ys) ≡ cond (has_int_set ys) (start_of ys) (start_of xs)
+start_of-append [] ys = start_alone (has_int_set ys) ys refl
+start_of-append (Add n ∷ xs) ys = start_of-append xs ys
+start_of-append (Set n ∷ xs) ys =
+    ap (λ b. cond b (start_of (xs ++ ys)) n) (has_int_set-append xs ys)
+    ∙ start_set (has_int_set xs) (has_int_set ys) (start_of xs) (start_of ys) (start_of (xs ++ ys)) n (start_of-append xs ys)
 
-added-append : (xs ys : List IntChange) → added (xs ++ ys) ≡ cond (has_set ys) (added ys) (added xs +ℤ added ys)
-added-append [] ys = added_none (last_set ys) (added ys)
+added_alone : (b : Bool) (a : ℤ) → a ≡ cond b a (pos 0 +ℤ a)
+added_alone true a = refl
+added_alone false a = sym (zero_plus a)
+
+added_add : (o p : Bool) (n a b c : ℤ) → c ≡ cond p b (a +ℤ b)
+    → cond (cond p true o) c (n +ℤ c) ≡ cond p b (cond o a (n +ℤ a) +ℤ b)
+added_add o true n a b c e = e
+added_add true false n a b c e = e
+added_add false false n a b c e = ap (λ x. n +ℤ x) e ∙ plus_assoc n a b
+
+added-append : (xs ys : List IntChange) → added (xs ++ ys) ≡ cond (has_int_set ys) (added ys) (added xs +ℤ added ys)
+added-append [] ys = added_alone (has_int_set ys) (added ys)
 added-append (Add n ∷ xs) ys =
-    ap (λ o. cond (is_some o) (added (xs ++ ys)) (n +ℤ added (xs ++ ys))) (last_set-append xs ys)
-    ∙ added_add (last_set xs) (last_set ys) n (added xs) (added ys) (added (xs ++ ys)) (added-append xs ys)
+    ap (λ b. cond b (added (xs ++ ys)) (n +ℤ added (xs ++ ys))) (has_int_set-append xs ys)
+    ∙ added_add (has_int_set xs) (has_int_set ys) n (added xs) (added ys) (added (xs ++ ys)) (added-append xs ys)
 added-append (Set n ∷ xs) ys = added-append xs ys
 
 -- ---- the value of a list after a list
@@ -66,21 +81,21 @@ applied_add w (pos zero) = ap (λ x. int_wrap w64 x) (sym (plus_zero w))
 applied_add w (pos (suc n)) = int_wrap-add_left w64 w (pos (suc n))
 applied_add w (negsuc n) = int_wrap-add_left w64 w (negsuc n)
 
-plain_by_parts : (p o : Option ℤ) (b a : ℤ)
-    → int_wrap w64 (unwrap_or (later p o) (pos 0) +ℤ cond (is_some o) a (b +ℤ a))
-    ≡ int_applied (cond (is_some o) (Some (effects.SetInt (int_wrap w64 (unwrap_or o (pos 0) +ℤ a)))) (add_effect (int_wrap w64 a))) (int_wrap w64 (unwrap_or p (pos 0) +ℤ b))
-unfolding later
-plain_by_parts p (Some n) b a = refl
-plain_by_parts p None b a =
-    ap (λ x. int_wrap w64 x) (plus_assoc (unwrap_or p (pos 0)) b a)
-    ∙ sym (int_wrap-add_right w64 (unwrap_or p (pos 0) +ℤ b) a)
-    ∙ sym (applied_add (unwrap_or p (pos 0) +ℤ b) (int_wrap w64 a))
+plain_by_parts : (o : Bool) (p n b a : ℤ)
+    → int_wrap w64 (cond o n p +ℤ cond o a (b +ℤ a))
+    ≡ int_applied (cond o (Some (effects.SetInt (int_wrap w64 (n +ℤ a)))) (add_effect (int_wrap w64 a))) (int_wrap w64 (p +ℤ b))
+plain_by_parts true p n b a = refl
+plain_by_parts false p n b a =
+    ap (λ x. int_wrap w64 x) (plus_assoc p b a)
+    ∙ sym (int_wrap-add_right w64 (p +ℤ b) a)
+    ∙ sym (applied_add (p +ℤ b) (int_wrap w64 a))
 
 pub int_plain-append : (base delta : List IntChange) → int_plain (base ++ delta) ≡ int_applied (int_effect delta) (int_plain base)
+unfolding plain_int
 int_plain-append base delta =
-    ap (λ o. int_wrap w64 (unwrap_or o (pos 0) +ℤ added (base ++ delta))) (last_set-append base delta)
-    ∙ ap (λ x. int_wrap w64 (unwrap_or (later (last_set base) (last_set delta)) (pos 0) +ℤ x)) (added-append base delta)
-    ∙ plain_by_parts (last_set base) (last_set delta) (added base) (added delta)
+    ap (λ x. int_wrap w64 (x +ℤ added (base ++ delta))) (start_of-append base delta)
+    ∙ ap (λ x. int_wrap w64 (cond (has_int_set delta) (start_of delta) (start_of base) +ℤ x)) (added-append base delta)
+    ∙ plain_by_parts (has_int_set delta) (start_of base) (start_of delta) (added base) (added delta)
 
 -- ---- the effect of a list after a list
 combined_set : (m k : ℤ) → int_combined (Some (effects.SetInt (int_wrap w64 m))) (add_effect k) ≡ Some (effects.SetInt (int_wrap w64 (m +ℤ k)))
@@ -105,24 +120,29 @@ wrap_twice : (a : ℤ) → int_wrap w64 a ≡ int_wrap w64 (int_wrap w64 a)
 wrap_twice a =
     ap (λ x. int_wrap w64 x) (sym (zero_plus a)) ∙ sym (int_wrap-add_right w64 (pos 0) a) ∙ ap (λ x. int_wrap w64 x) (zero_plus (int_wrap w64 a))
 
-effect_by_parts : (p o : Option ℤ) (b a : ℤ)
-    → cond (is_some (later p o)) (Some (effects.SetInt (int_wrap w64 (unwrap_or (later p o) (pos 0) +ℤ cond (is_some o) a (b +ℤ a))))) (add_effect (int_wrap w64 (cond (is_some o) a (b +ℤ a))))
+effect_by_parts : (p o : Bool) (m n b a : ℤ)
+    → cond (cond o true p) (Some (effects.SetInt (int_wrap w64 (cond o n m +ℤ cond o a (b +ℤ a))))) (add_effect (int_wrap w64 (cond o a (b +ℤ a))))
     ≡ int_combined
-    (cond (is_some p) (Some (effects.SetInt (int_wrap w64 (unwrap_or p (pos 0) +ℤ b)))) (add_effect (int_wrap w64 b)))
-    (cond (is_some o) (Some (effects.SetInt (int_wrap w64 (unwrap_or o (pos 0) +ℤ a)))) (add_effect (int_wrap w64 a)))
-unfolding later
-effect_by_parts p (Some n) b a = refl
-effect_by_parts (Some m) None b a =
+    (cond p (Some (effects.SetInt (int_wrap w64 (m +ℤ b)))) (add_effect (int_wrap w64 b)))
+    (cond o (Some (effects.SetInt (int_wrap w64 (n +ℤ a)))) (add_effect (int_wrap w64 a)))
+effect_by_parts p true m n b a = refl
+effect_by_parts true false m n b a =
     ap (λ x. Some (effects.SetInt x)) (ap (λ x. int_wrap w64 x) (plus_assoc m b a) ∙ sym (int_wrap-add_right w64 (m +ℤ b) a))
     ∙ sym (combined_set (m +ℤ b) (int_wrap w64 a))
-effect_by_parts None None b a =
+effect_by_parts false false m n b a =
     ap add_effect (sym (int_wrap-add_right w64 b a)) ∙ sym (combined_add b (int_wrap w64 a) (wrap_twice a))
 
+-- an effect by its parts: whether something was set, and the number that a set and the adds after it make
+with_parts : Bool → ℤ → ℤ → Option Effect
+with_parts b start sum = cond b (Some (effects.SetInt (int_wrap w64 (start +ℤ sum)))) (add_effect (int_wrap w64 sum))
+
 pub int_effect-append : (delta more : List IntChange) → int_effect (delta ++ more) ≡ int_combined (int_effect delta) (int_effect more)
+unfolding plain_int with_parts
 int_effect-append delta more =
-    ap (λ o. cond (is_some o) (Some (effects.SetInt (int_wrap w64 (unwrap_or o (pos 0) +ℤ added (delta ++ more))))) (add_effect (int_wrap w64 (added (delta ++ more))))) (last_set-append delta more)
-    ∙ ap (λ x. cond (is_some (later (last_set delta) (last_set more))) (Some (effects.SetInt (int_wrap w64 (unwrap_or (later (last_set delta) (last_set more)) (pos 0) +ℤ x)))) (add_effect (int_wrap w64 x))) (added-append delta more)
-    ∙ effect_by_parts (last_set delta) (last_set more) (added delta) (added more)
+    ap (λ b. with_parts b (start_of (delta ++ more)) (added (delta ++ more))) (has_int_set-append delta more)
+    ∙ ap (λ x. with_parts (cond (has_int_set more) true (has_int_set delta)) x (added (delta ++ more))) (start_of-append delta more)
+    ∙ ap (λ x. with_parts (cond (has_int_set more) true (has_int_set delta)) (cond (has_int_set more) (start_of more) (start_of delta)) x) (added-append delta more)
+    ∙ effect_by_parts (has_int_set delta) (has_int_set more) (start_of delta) (start_of more) (added delta) (added more)
 
 pub int_effect-empty : int_effect [] ≡ None
 unfolding int_wrap
@@ -165,10 +185,10 @@ stands_with_same : (s : Bool) (start d : ℤ) (base delta base' delta' : List In
     → int_plain base ≡ int_plain base' → int_effect delta ≡ int_effect delta' → StandsWith s start d base delta → StandsWith s start d base' delta'
 unfolding parts
 stands_with_same true start d base delta base' delta' e f h =
-    let t = same_set (has_set delta) (has_set delta') (int_plain delta) (int_plain delta') (int_wrap w64 (added delta)) (int_wrap w64 (added delta')) f h.0 in
+    let t = same_set (has_int_set delta) (has_int_set delta') (int_plain delta) (int_plain delta') (int_wrap w64 (added delta)) (int_wrap w64 (added delta')) f h.0 in
     (t.0, h.1 ∙ t.1)
 stands_with_same false start d base delta base' delta' e f h =
-    let t = same_sum (has_set delta) (has_set delta') (int_plain delta) (int_plain delta') (int_wrap w64 (added delta)) (int_wrap w64 (added delta')) f h.0 in
+    let t = same_sum (has_int_set delta) (has_int_set delta') (int_plain delta) (int_plain delta') (int_wrap w64 (added delta)) (int_wrap w64 (added delta')) f h.0 in
     (t.0, h.1 ∙ e, h.2 ∙ t.1)
 
 pub int_stands_by_effect : (state : IntCell) (base delta base' delta' : List IntChange)
@@ -193,7 +213,7 @@ own_parts false set sum = own_add sum
 
 pub int_effect_is_own : (delta : List IntChange) (effect : Effect) → int_effect delta ≡ Some effect → IsIntEffect effect
 unfolding parts NoneOrOwn
-int_effect_is_own delta effect e = subst NoneOrOwn e (own_parts (has_set delta) (int_plain delta) (int_wrap w64 (added delta)))
+int_effect_is_own delta effect e = subst NoneOrOwn e (own_parts (has_int_set delta) (int_plain delta) (int_wrap w64 (added delta)))
 
 -- ---- lists that do the same have the same effect
 wrap_apart : int_wrap w64 (pos 0) ≡ int_wrap w64 (pos 1) → ⊥
@@ -227,24 +247,25 @@ same_parts false false x x' a a' at_zero at_one =
 
 pub int_canonical : (delta delta' : List IntChange)
     → ((base : List IntChange) → int_plain (base ++ delta) ≡ int_plain (base ++ delta')) → int_effect delta ≡ int_effect delta'
-unfolding parts
+unfolding parts plain_int
 int_canonical delta delta' same =
     let at = λ (base : List IntChange). sym (int_plain-append base delta) ∙ same base ∙ int_plain-append base delta' in
-    same_parts (has_set delta) (has_set delta') (int_plain delta) (int_plain delta') (added delta) (added delta') (at []) (at (Set (pos 1) ∷ []))
+    same_parts (has_int_set delta) (has_int_set delta') (int_plain delta) (int_plain delta') (added delta) (added delta') (at []) (at (Set (pos 1) ∷ []))
 
 -- ---- what a state stands for, call by call
 pub StandsWith-value : (value : ℤ) (base : List IntChange) → int_plain base ≡ value → StandsWith false value (pos 0) base []
 unfolding int_wrap
 StandsWith-value value base e = (refl, sym e, refl)
 
-plain_unset : (base delta : List IntChange) → has_set delta ≡ false → int_plain (base ++ delta) ≡ int_wrap w64 (int_plain base +ℤ int_wrap w64 (added delta))
+plain_unset : (base delta : List IntChange) → has_int_set delta ≡ false → int_plain (base ++ delta) ≡ int_wrap w64 (int_plain base +ℤ int_wrap w64 (added delta))
+unfolding plain_int
 plain_unset base delta e =
     int_plain-append base delta
     ∙ ap (λ b. int_applied (cond b (Some (effects.SetInt (int_plain delta))) (add_effect (int_wrap w64 (added delta)))) (int_plain base)) e
-    ∙ applied_add (unwrap_or (last_set base) (pos 0) +ℤ added base) (int_wrap w64 (added delta))
-    ∙ sym (int_wrap-add_left w64 (unwrap_or (last_set base) (pos 0) +ℤ added base) (int_wrap w64 (added delta)))
+    ∙ applied_add (start_of base +ℤ added base) (int_wrap w64 (added delta))
+    ∙ sym (int_wrap-add_left w64 (start_of base +ℤ added base) (int_wrap w64 (added delta)))
 
-plain_set : (base delta : List IntChange) → has_set delta ≡ true → int_plain (base ++ delta) ≡ int_plain delta
+plain_set : (base delta : List IntChange) → has_int_set delta ≡ true → int_plain (base ++ delta) ≡ int_plain delta
 plain_set base delta e =
     int_plain-append base delta
     ∙ ap (λ b. int_applied (cond b (Some (effects.SetInt (int_plain delta))) (add_effect (int_wrap w64 (added delta)))) (int_plain base)) e
@@ -254,21 +275,11 @@ StandsWith-ask true start d base delta h = h.1 ∙ sym (plain_set base delta h.0
 StandsWith-ask false start d base delta h =
     ap (λ x. int_wrap w64 (x +ℤ d)) h.1 ∙ ap (λ x. int_wrap w64 (int_plain base +ℤ x)) h.2 ∙ sym (plain_unset base delta h.0)
 
-set_last : (o p : Option ℤ) → is_some p ≡ true → is_some (later o p) ≡ true
-unfolding later
-set_last o None e = cc
-set_last o (Some n) e = refl
+has_set-last : (delta more : List IntChange) → has_int_set more ≡ true → has_int_set (delta ++ more) ≡ true
+has_set-last delta more e = has_int_set-append delta more ∙ ap (λ b. cond b true (has_int_set delta)) e
 
-set_first : (o p : Option ℤ) → is_some p ≡ false → is_some (later o p) ≡ is_some o
-unfolding later
-set_first o None e = refl
-set_first o (Some n) e = cc
-
-has_set-last : (delta more : List IntChange) → has_set more ≡ true → has_set (delta ++ more) ≡ true
-has_set-last delta more e = ap is_some (last_set-append delta more) ∙ set_last (last_set delta) (last_set more) e
-
-has_set-first : (delta more : List IntChange) → has_set more ≡ false → has_set (delta ++ more) ≡ has_set delta
-has_set-first delta more e = ap is_some (last_set-append delta more) ∙ set_first (last_set delta) (last_set more) e
+has_set-first : (delta more : List IntChange) → has_int_set more ≡ false → has_int_set (delta ++ more) ≡ has_int_set delta
+has_set-first delta more e = has_int_set-append delta more ∙ ap (λ b. cond b true (has_int_set delta)) e
 
 pub StandsWith-set : (s : Bool) (x d : ℤ) (base delta before after : List IntChange) → s ≡ true → StandsWith s x d before after → StandsWith true x d base (delta ++ after)
 StandsWith-set true x d base delta before after e h = (has_set-last delta after h.0, h.1 ∙ sym (plain_set delta after h.0))
@@ -278,7 +289,7 @@ sum_twice : (x d e : ℤ) → int_wrap w64 (x +ℤ int_wrap w64 (d +ℤ e)) ≡ 
 sum_twice x d e =
     int_wrap-add_right w64 x (d +ℤ e) ∙ ap (λ y. int_wrap w64 y) (plus_assoc x d e) ∙ sym (int_wrap-add_left w64 (x +ℤ d) e)
 
-added_unset : (delta more : List IntChange) → has_set more ≡ false → added (delta ++ more) ≡ added delta +ℤ added more
+added_unset : (delta more : List IntChange) → has_int_set more ≡ false → added (delta ++ more) ≡ added delta +ℤ added more
 added_unset delta more e = added-append delta more ∙ ap (λ b. cond b (added more) (added delta +ℤ added more)) e
 
 wrap_sum : (a b : ℤ) → int_wrap w64 (int_wrap w64 a +ℤ int_wrap w64 b) ≡ int_wrap w64 (a +ℤ b)
@@ -312,6 +323,7 @@ StandsWith-one s x d n base delta h =
     (after_unset s x d (int_plain []) (int_wrap w64 (n +ℤ pos 0)) base delta [] (Add n ∷ []) h (one_add n))
 
 pub StandsWith-one_set : (n : ℤ) (base delta : List IntChange) → StandsWith true n (pos 0) base (delta ++ Set n ∷ [])
+unfolding plain_int
 StandsWith-one_set n base delta = StandsWith-set true n (pos 0) base delta [] (Set n ∷ []) refl (refl, refl)
 
 pub StandsWith-effect : (s : Bool) (x d : ℤ) (base delta : List IntChange) → s ≡ true → StandsWith s x d base delta → Some (effects.SetInt (int_plain (base ++ delta))) ≡ int_effect delta
@@ -335,4 +347,9 @@ pub effect_of_add : (n : ℤ) → FitsSigned w64 n → n ≢ pos 0 → int_effec
 effect_of_add n fits ne = ap (λ x. add_effect (int_wrap w64 x)) (plus_zero n) ∙ ap add_effect (int_wrap_fits w64 n fits) ∙ add_some n ne
 
 pub effect_of_set : (n : ℤ) → FitsSigned w64 n → int_effect (Set n ∷ []) ≡ Some (effects.SetInt n)
+unfolding plain_int
 effect_of_set n fits = ap (λ x. Some (effects.SetInt (int_wrap w64 x))) (plus_zero n) ∙ ap (λ x. Some (effects.SetInt x)) (int_wrap_fits w64 n fits)
+
+pub int_plain-empty : int_plain [] ≡ pos 0
+unfolding plain_int int_wrap
+int_plain-empty = refl

@@ -1,3 +1,4 @@
+pub mod Changes
 pub mod IntCells
 pub mod IntLaws
 pub mod TextCells

@@ -1,5 +1,7 @@
 -- Cells with a text: their plain value, and what a state stands for.
-use Rattle.std.specs.Prelude.{◌≡◌, ℕ, Bool, true, false, List, [], ◌∷◌, Option, Some, None, if◌then◌else◌, refl}
+use Rattle.std.specs.Prelude.{◌≡◌, ℕ, Bool, true, false, List, [], ◌∷◌, Option, Some, None, if◌then◌else◌, map, refl}
+use Rattle.cloud_base.specs.PlainCell.{if_empty, plain_text}
+use Rattle.fj_core.specs.Changes.{of_text}
 use Rattle.fj_core.specs.declared.effect.Effect.{Effect}
 use Rattle.fj_core.specs.declared.effect.Effect.TheVariants as effects
 use Rattle.fj_core.specs.declared.text_cell.TextChange.{TextChange}
@@ -8,21 +10,12 @@ use Rattle.fj_core.specs.declared.text_cell.Done.{Done}
 use Rattle.fj_core.specs.declared.text_cell.Done.TheVariants as done
 use Rattle.fj_core.specs.declared.text_cell.TextCell.{TextCell}
 
--- a text that is set where the text is empty
-abbrev pub or_if_empty : List ℕ → List ℕ → List ℕ
-or_if_empty [] offered = offered
-or_if_empty (b ∷ text) offered = b ∷ text
-
--- the walk of a list of changes from a text: a set replaces, and a set-if-empty replaces where the text is empty at that point
-abbrev pub walk : List ℕ → List TextChange → List ℕ
-walk text [] = text
-walk text (Set set ∷ changes) = walk set changes
-walk text (IfEmpty offered ∷ changes) = walk (or_if_empty text offered) changes
-
--- the walk from the empty text
+-- the value of a cell with a text, over changes of texts: a set replaces the text, and a set-if-empty replaces it where it
+-- is empty at that point
 abbrev pub text_plain : List TextChange → List ℕ
-text_plain changes = walk [] changes
+text_plain changes = plain_text (map of_text changes)
 
+-- whether some change sets the text
 abbrev pub has_text_set : List TextChange → Bool
 has_text_set [] = false
 has_text_set (Set set ∷ changes) = true
@@ -54,20 +47,22 @@ IsTextEffect (effects.SetInt n) = ⊥
 IsTextEffect (effects.SetText text) = Unit {0}
 IsTextEffect (effects.IfEmpty text) = Unit {0}
 
--- what an effect makes of a text
+-- what an effect makes of a text: a set replaces it, a set-if-empty replaces it where it is empty, and no effect leaves it
 abbrev pub text_applied : Option Effect → List ℕ → List ℕ
 text_applied (Some (effects.SetText set)) text = set
-text_applied (Some (effects.IfEmpty offered)) text = or_if_empty text offered
+text_applied (Some (effects.IfEmpty offered)) text = if_empty text offered
 text_applied _ text = text
 
--- one effect and then another
+-- How effects join: the one effect that does what the first does and then the second, whatever text they meet. A set makes
+-- all that came before it vain. A set-if-empty after a set counts only where that set left the text empty, and of two
+-- sets-if-empty the first alone counts, since it leaves no empty text to the second
 abbrev pub text_combined : Option Effect → Option Effect → Option Effect
 text_combined first None = first
 text_combined first (Some (effects.SetText set)) = Some (effects.SetText set)
 text_combined first (Some (effects.Add n)) = first
 text_combined first (Some (effects.SetInt n)) = first
 text_combined None (Some (effects.IfEmpty offered)) = Some (effects.IfEmpty offered)
-text_combined (Some (effects.SetText set)) (Some (effects.IfEmpty offered)) = Some (effects.SetText (or_if_empty set offered))
+text_combined (Some (effects.SetText set)) (Some (effects.IfEmpty offered)) = Some (effects.SetText (if_empty set offered))
 text_combined (Some first) (Some (effects.IfEmpty offered)) = Some first
 
 -- what was done, as an effect
@@ -83,12 +78,18 @@ TextStands cell base delta = (cell.base ≡ text_plain base) × (done_effect cel
 
 -- a set-if-empty counts only where the text is empty
 pub example_first_wins : text_plain (IfEmpty (98 ∷ []) ∷ IfEmpty (97 ∷ []) ∷ []) ≡ 98 ∷ []
+unfolding plain_text
 example_first_wins = refl
 
 -- a set to the empty text lets the next offer in
 pub example_set_empty : text_plain (Set (97 ∷ []) ∷ Set [] ∷ IfEmpty (120 ∷ []) ∷ []) ≡ 120 ∷ []
+unfolding plain_text
 example_set_empty = refl
 
 -- an offer of the empty text does nothing
 pub example_empty_offer : text_effect (IfEmpty [] ∷ IfEmpty (120 ∷ []) ∷ []) ≡ Some (effects.IfEmpty (120 ∷ []))
 example_empty_offer = refl
+
+-- an offer after a set to the empty text is let in, and of two offers the first counts
+pub example_joined : (text_combined (Some (effects.SetText [])) (Some (effects.IfEmpty (120 ∷ []))) ≡ Some (effects.SetText (120 ∷ []))) × (text_combined (Some (effects.IfEmpty (98 ∷ []))) (Some (effects.IfEmpty (120 ∷ []))) ≡ Some (effects.IfEmpty (98 ∷ [])))
+example_joined = (refl, refl)

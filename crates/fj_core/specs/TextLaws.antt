@@ -1,19 +1,25 @@
 -- Laws of cells with a text.
 use Rattle.std.proofs.Common.{◌≡◌, ℕ, Bool, true, false, List, [], ◌∷◌, ◌++◌, cond, refl, sym, ◌∙◌, ap, subst, length, ◌==◌, arith}
 use Rattle.std.proofs.lemmas.Bool.Decides.{nat_tests}
-use Rattle.std.specs.Prelude.{Option, Some, None}
+use Rattle.std.specs.Prelude.{Option, Some, None, map}
+use Rattle.cloud_base.specs.PlainCell.{if_empty, walk_text, plain_text}
+use Rattle.fj_core.specs.Changes.{of_text}
 use Rattle.fj_core.specs.declared.effect.Effect.{Effect}
 use Rattle.fj_core.specs.declared.effect.Effect.TheVariants as effects
 use Rattle.fj_core.specs.declared.text_cell.TextChange.{TextChange}
 use Rattle.fj_core.specs.declared.text_cell.TextChange.TheVariants.{Set, IfEmpty}
 use Rattle.fj_core.specs.declared.text_cell.TextCell.{TextCell}
-use Rattle.fj_core.specs.TextCells.{or_if_empty, walk, text_plain, has_text_set, offer_or, first_offer, offer_effect, text_effect, IsTextEffect, text_applied, text_combined, done_effect, TextStands}
+use Rattle.fj_core.specs.TextCells.{text_plain, has_text_set, offer_or, first_offer, offer_effect, text_effect, IsTextEffect, text_applied, text_combined, done_effect, TextStands}
+
+-- the text after the changes, from a text on
+abbrev walk : List ℕ → List TextChange → List ℕ
+walk text changes = walk_text text (map of_text changes)
 
 -- ---- a list after a list
 walk-append : (text : List ℕ) (xs ys : List TextChange) → walk text (xs ++ ys) ≡ walk (walk text xs) ys
 walk-append text [] ys = refl
 walk-append text (Set set ∷ xs) ys = walk-append set xs ys
-walk-append text (IfEmpty offered ∷ xs) ys = walk-append (or_if_empty text offered) xs ys
+walk-append text (IfEmpty offered ∷ xs) ys = walk-append (if_empty text offered) xs ys
 
 has_text_set-append : (xs ys : List TextChange) → has_text_set (xs ++ ys) ≡ cond (has_text_set xs) true (has_text_set ys)
 has_text_set-append [] ys = refl
@@ -41,7 +47,7 @@ first_offer-append (IfEmpty offered ∷ xs) ys = sooner_offer offered (first_off
 walk_forgets : (text other : List ℕ) (changes : List TextChange) → has_text_set changes ≡ true → walk text changes ≡ walk other changes
 walk_forgets text other [] e = cc
 walk_forgets text other (Set set ∷ changes) e = refl
-walk_forgets text other (IfEmpty offered ∷ changes) e = walk_forgets (or_if_empty text offered) (or_if_empty other offered) changes e
+walk_forgets text other (IfEmpty offered ∷ changes) e = walk_forgets (if_empty text offered) (if_empty other offered) changes e
 
 -- without a set a text that isn't empty stays
 walk_keeps : (b : ℕ) (text : List ℕ) (changes : List TextChange) → has_text_set changes ≡ false → walk (b ∷ text) changes ≡ b ∷ text
@@ -49,7 +55,7 @@ walk_keeps b text [] e = refl
 walk_keeps b text (Set set ∷ changes) e = cc
 walk_keeps b text (IfEmpty offered ∷ changes) e = walk_keeps b text changes e
 
-empty_offer : (text : List ℕ) → or_if_empty text [] ≡ text
+empty_offer : (text : List ℕ) → if_empty text [] ≡ text
 empty_offer [] = refl
 empty_offer (b ∷ text) = refl
 
@@ -71,7 +77,7 @@ walk_applied true text changes e = walk_forgets text [] changes e
 walk_applied false text changes e = walk_offers text changes e
 
 pub text_plain-append : (base delta : List TextChange) → text_plain (base ++ delta) ≡ text_applied (text_effect delta) (text_plain base)
-unfolding effect_with
+unfolding effect_with plain_text
 text_plain-append base delta = walk-append [] base delta ∙ walk_applied (has_text_set delta) (walk [] base) delta refl
 
 -- ---- the effect of a list after a list
@@ -97,7 +103,7 @@ effect_by_parts true false xs ys e f =
 effect_by_parts false false xs ys e f = sym (combined_offers (first_offer xs) (first_offer ys))
 
 pub text_effect-append : (delta more : List TextChange) → text_effect (delta ++ more) ≡ text_combined (text_effect delta) (text_effect more)
-unfolding effect_with
+unfolding effect_with plain_text
 text_effect-append delta more =
     ap (λ b. effect_with b (walk [] (delta ++ more)) (first_offer (delta ++ more))) (has_text_set-append delta more)
     ∙ ap (λ t. effect_with (cond (has_text_set delta) true (has_text_set more)) t (first_offer (delta ++ more))) (walk-append [] delta more)
@@ -176,7 +182,7 @@ same_with false false set set' offer offer' h k same = same_offers offer offer' 
 
 pub text_canonical : (delta delta' : List TextChange)
     → ((base : List TextChange) → text_plain (base ++ delta) ≡ text_plain (base ++ delta')) → text_effect delta ≡ text_effect delta'
-unfolding effect_with
+unfolding effect_with plain_text
 text_canonical delta delta' same =
     same_with (has_text_set delta) (has_text_set delta') (text_plain delta) (text_plain delta') (first_offer delta) (first_offer delta') (first_offer_is delta) (first_offer_is delta')
     (λ text. sym (text_plain-append (Set text ∷ []) delta) ∙ same (Set text ∷ []) ∙ text_plain-append (Set text ∷ []) delta')
@@ -186,9 +192,9 @@ pub TextStands-ask : (cell : TextCell) (base delta : List TextChange) → TextSt
 TextStands-ask cell base delta h =
     ap (λ e. text_applied e cell.base) h.1 ∙ ap (λ t. text_applied (text_effect delta) t) h.0 ∙ sym (text_plain-append base delta)
 
-pub or_if_empty-filled : (text offered : List ℕ) → (text ≡ [] → ⊥) → or_if_empty text offered ≡ text
-or_if_empty-filled [] offered ne = absurd (ne refl)
-or_if_empty-filled (b ∷ text) offered ne = refl
+pub if_empty-filled : (text offered : List ℕ) → (text ≡ [] → ⊥) → if_empty text offered ≡ text
+if_empty-filled [] offered ne = absurd (ne refl)
+if_empty-filled (b ∷ text) offered ne = refl
 
 pub empty_by_length : (text : List ℕ) → true ≡ (length text == 0) → text ≡ []
 empty_by_length [] e = refl
@@ -211,6 +217,7 @@ effect_of_offer [] ne = absurd (ne refl)
 effect_of_offer (b ∷ text) ne = refl
 
 pub effect_of_set : (text : List ℕ) → text_effect (Set text ∷ []) ≡ Some (effects.SetText text)
+unfolding plain_text
 effect_of_set text = refl
 
 pub effect_of_no_offer : (text : List ℕ) → text ≡ [] → text_effect (IfEmpty text ∷ []) ≡ None

@@ -102,8 +102,8 @@ impl NonEmpty {
     }
 }
 
-/// What a list of changes does to one cell: it adds to the number, sets the number or the text, or sets
-/// the text where it is empty. It is the cell's part of a packet.
+/// What a list of changes does to one cell: it adds to the number, sets the number or the text, or
+/// sets the text where it is empty. It is the cell's part of a packet.
 #[derive(Drop, PartialEq, Eq)]
 pub enum Effect {
     Add(NonZero),

@@ -6,9 +6,9 @@ use crate::effect::Effect;
 
 /// A cell that can be forked and joined.
 ///
-/// A state stands for `delta` after `base`: two lists of changes, what was done before the state was
-/// forked and what was done since. One state stands for many such pairs, and each call keeps what it
-/// promises for all of them. No call takes memory.
+/// A state stands for `delta` after `base`: two lists of changes, what was done before the state
+/// was forked and what was done since. One state stands for many such pairs, and each call keeps
+/// what it promises for all of them. No call takes memory.
 pub trait ForkJoin: Drop {
     type Change;
 
@@ -29,7 +29,7 @@ pub trait ForkJoin: Drop {
     /// What an effect makes of a value.
     ghost applied: { Option Effect → Self.Value → Self.Value };
 
-    /// One effect and then another, as one.
+    /// How effects join: one effect and then another, as one.
     ghost combined: { Option Effect → Option Effect → Option Effect };
 
     /// The state of a cell that nobody has touched.
@@ -76,8 +76,8 @@ pub trait ForkJoin: Drop {
         ensures { (base delta more : List Self.Change) → stands self.old base delta
             → effect_of more ≡ Some effect.now → stands self.new base (delta ++ more) };
 
-    /// The same state. What keeps many cells builds a change of them all aside from copies, so that a
-    /// refusal for memory leaves them as they were.
+    /// The same state. What keeps many cells builds a change of them all aside from copies, so that
+    /// a refusal for memory leaves them as they were.
     fn copied(&self) -> Self
         ensures { result ≡ self.now };
 

@@ -12,8 +12,8 @@ pub enum IntChange {
     Set(i64),
 }
 
-/// A number modulo 2^64, as a base and what was added since. The base is the number that was set since
-/// the fork, where one was, else the number at the fork.
+/// A number modulo 2^64, as a base and what was added since. The base is the number that was set
+/// since the fork, where one was, else the number at the fork.
 #[derive(Drop)]
 pub struct IntCell {
     was_set: bool,
