@@ -5,8 +5,9 @@ use Rattle.cloud_base.specs.declared.update.Update.{Update}
 use Rattle.cloud_base.specs.declared.update.Update.TheVariants.{Cell}
 use Rattle.fj_core.specs.declared.int_cell.IntCell.{IntCell}
 use Rattle.fj_core.specs.declared.int_cell.IntChange.{IntChange}
+use Rattle.fj_core.specs.Changes.{of_int}
 use Rattle.fj_core.specs.IntCells.{IntStands}
-use Rattle.global_cells.specs.Cells.{to_change, changes_of, CellsStand}
+use Rattle.global_cells.specs.Cells.{changes_of, CellsStand}
 use Rattle.global_cells.proofs.Logs.{changes_of-append, changes_own, changes_other}
 
 deeper : {X : Type 0} (i k : ℕ) (x y : X) (P : Type 0) → ((k ≡ i) × (x ≡ y)) ⊎ ((k ≡ i → ⊥) × P) → ((suc k ≡ suc i) × (x ≡ y)) ⊎ ((suc k ≡ suc i → ⊥) × P)
@@ -33,10 +34,10 @@ same_cell xs k x y e f = cc (e, f)
 -- one change more
 pub stands_update : (cells : List IntCell) (g : ℕ) (old new : IntCell) (c : IntChange) → slice_get cells g ≡ Some old
     → ((base delta : List IntChange) → IntStands old base delta → IntStands new base (delta ++ c ∷ []))
-    → (base delta : List Update) → CellsStand cells base delta → CellsStand (set cells g new) base (delta ++ Cell g [] (to_change c) ∷ [])
+    → (base delta : List Update) → CellsStand cells base delta → CellsStand (set cells g new) base (delta ++ Cell g [] (of_int c) ∷ [])
 stands_update cells g old new c at says base delta h k cell is = ⊎_elim
-    (λ same. subst (λ (x : IntCell). IntStands x (changes_of k base) (changes_of k (delta ++ Cell g [] (to_change c) ∷ []))) same.1
-    (subst (λ (j : ℕ). IntStands new (changes_of j base) (changes_of j (delta ++ Cell g [] (to_change c) ∷ []))) (sym same.0)
+    (λ same. subst (λ (x : IntCell). IntStands x (changes_of k base) (changes_of k (delta ++ Cell g [] (of_int c) ∷ []))) same.1
+    (subst (λ (j : ℕ). IntStands new (changes_of j base) (changes_of j (delta ++ Cell g [] (of_int c) ∷ []))) (sym same.0)
     (subst (IntStands new (changes_of g base)) (sym (changes_own g delta c)) (says (changes_of g base) (changes_of g delta) (h g old at)))))
     (λ other. subst (IntStands cell (changes_of k base)) (sym (changes_other k g delta c (λ e. other.0 (sym e)))) (h k cell other.1))
     (get_set cells g k new cell is)

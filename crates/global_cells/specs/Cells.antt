@@ -1,33 +1,22 @@
 -- What the cells of all globals stand for.
 use Rattle.std.specs.Prelude.{◌≡◌, refl, ℕ, zero, suc, List, [], ◌∷◌, slice_get, Option, Some, MatchOption, ⊤, false, pos}
 use Rattle.std.specs.Int.{int_wrap}
+use Rattle.std.specs.List.{flat_map}
 use Rattle.std.proofs.Common.{subst, true≢false}
 use Rattle.cloud_base.specs.Log.{of_cell}
-use Rattle.cloud_base.specs.declared.update.CellChange.{CellChange}
-use Rattle.cloud_base.specs.declared.update.CellChange.TheVariants.{Add, SetInt, SetText, SetIfEmpty}
+use Rattle.cloud_base.specs.PlainCell.{plain_int}
+use Rattle.cloud_base.specs.declared.update.CellChange.TheVariants.{Add, SetInt}
 use Rattle.cloud_base.specs.declared.update.Update.{Update}
 use Rattle.cloud_base.specs.declared.update.Update.TheVariants.{Cell, Create}
 use Rattle.fj_core.specs.declared.int_cell.IntCell.{IntCell}
 use Rattle.fj_core.specs.declared.int_cell.IntChange.{IntChange}
 use Rattle.fj_core.specs.declared.int_cell.IntChange.TheVariants.{Add as AddInt, Set}
+use Rattle.fj_core.specs.Changes.{ints}
 use Rattle.fj_core.specs.IntCells.{IntStands}
-
--- the changes of an integer among those of a cell
-abbrev pub ints : List CellChange → List IntChange
-ints [] = []
-ints (Add n ∷ changes) = AddInt n ∷ ints changes
-ints (SetInt n ∷ changes) = Set n ∷ ints changes
-ints (SetText text ∷ changes) = ints changes
-ints (SetIfEmpty text ∷ changes) = ints changes
-
--- a change of an integer, as a change of a cell
-abbrev pub to_change : IntChange → CellChange
-to_change (AddInt n) = Add n
-to_change (Set n) = SetInt n
 
 -- the changes of a global in a log
 abbrev pub changes_of : ℕ → List Update → List IntChange
-changes_of global log = ints (of_cell global [] log)
+changes_of global log = flat_map ints (of_cell global [] log)
 
 -- each global's cell stands for its changes in a log after a log
 abbrev pub CellsStand : List IntCell → List Update → List Update → Type 0
@@ -57,7 +46,7 @@ module _ where
 
   -- the one cell that there is stands for the changes of global 0, and of other globals there is no cell
   pub example_stands : CellsStand (five_and_three ∷ []) set_to_five add_three
-  unfolding int_wrap
+  unfolding plain_int int_wrap
   example_stands zero cell found = subst (FoundStands 0) found (refl, refl, refl)
   example_stands (suc n) cell found = subst (FoundStands (suc n)) found tt
 

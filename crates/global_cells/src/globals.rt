@@ -8,16 +8,17 @@ ghost use Rattle.cloud_base.specs.declared.update.Query.TheVariants as Query;
 ghost use Rattle.cloud_base.specs.declared.update.Answer.TheVariants as Answer;
 ghost use Rattle.cloud_base.specs.declared.update.Update.{Update};
 ghost use Rattle.cloud_base.specs.declared.update.Update.TheVariants.{Cell};
+ghost use Rattle.fj_core.specs.Changes.{of_int};
 ghost use Rattle.fj_core.specs.IntCells.{int_plain};
-ghost use Rattle.global_cells.specs.Cells.{CellsStand, changes_of, to_change};
+ghost use Rattle.global_cells.specs.Cells.{CellsStand, changes_of};
 
 use cloud_base::Memory;
 use fj_core::{ForkJoin, IntCell, IntChange};
 use std::alloc::Global;
 use std::marker::Model;
 
-/// The cells of all globals, by number. It stands for a log after a log: what was done before it was
-/// forked, and what was done since.
+/// The cells of all globals, by number. It stands for a log after a log: what was done before it
+/// was forked, and what was done since.
 #[derive(Drop)]
 pub struct Globals {
     cells: Vec<IntCell>,
@@ -33,7 +34,7 @@ impl Model for Globals {
 }
 
 impl Globals {
-    /// So many cells that nobody has touched.
+    /// `count` cells that nobody has touched.
     pub fn new(alloc: Global, count: usize) -> Result<Globals, Memory>
         ensures count { IfOk result (λ globals. length globals ≡ count) }
         ensures stands { IfOk result (λ globals. CellsStand globals [] []) }
@@ -49,7 +50,8 @@ impl Globals {
     /// The value of a global.
     pub fn ask(&self, global: u16) -> i64
         requires { global < length self.now }
-        ensures { (base delta : List Update) → CellsStand self.now base delta → result ≡ int_plain (changes_of global (base ++ delta)) }
+        ensures { (base delta : List Update) → CellsStand self.now base delta
+            → result ≡ int_plain (changes_of global (base ++ delta)) }
     {
         let cell = &self.cells[global as usize];
         cell.ask()
@@ -59,7 +61,8 @@ impl Globals {
     pub fn update(&mut self, global: u16, change: &IntChange)
         requires { global < length self.old }
         ensures count { length self.new ≡ length self.old }
-        ensures stands { (base delta : List Update) → CellsStand self.old base delta → CellsStand self.new base (delta ++ Cell global [] (to_change change.now) ∷ []) }
+        ensures stands { (base delta : List Update) → CellsStand self.old base delta
+            → CellsStand self.new base (delta ++ Cell global [] (of_int change.now) ∷ []) }
     {
         let cell = &mut self.cells[global as usize];
         cell.update(change);
@@ -68,7 +71,8 @@ impl Globals {
     /// Cells that begin where these are.
     pub fn fork(&self, alloc: Global) -> Result<Globals, Memory>
         ensures count { IfOk result (λ globals. length globals ≡ length self.now) }
-        ensures stands { IfOk result (λ globals. (base delta : List Update) → CellsStand self.now base delta → CellsStand globals (base ++ delta) []) }
+        ensures stands { IfOk result (λ globals. (base delta : List Update)
+            → CellsStand self.now base delta → CellsStand globals (base ++ delta) []) }
     {
         let mut cells = Vec::new(alloc);
         for cell in &self.cells {
@@ -77,11 +81,13 @@ impl Globals {
         Ok(Globals { cells })
     }
 
-    /// Does what the child did since it was forked, whatever it was forked from. It takes no memory.
+    /// Does what the child did since it was forked, whatever it was forked from. It takes no
+    /// memory.
     pub fn join(&mut self, child: &Globals)
         requires { length child.now ≡ length self.old }
         ensures count { length self.new ≡ length self.old }
-        ensures stands { (base delta before after : List Update) → CellsStand self.old base delta → CellsStand child.now before after → CellsStand self.new base (delta ++ after) }
+        ensures stands { (base delta before after : List Update) → CellsStand self.old base delta
+            → CellsStand child.now before after → CellsStand self.new base (delta ++ after) }
     {
         for place in 0..self.cells.len() {
             let cell = &mut self.cells[place];
@@ -92,5 +98,8 @@ impl Globals {
 
 /// What a log answers to the query of a global is the plain value of its changes.
 pub fn answers_are_plain()
-    ensures { (schema : Schema) (log : List Update) (global : ℕ) → cell_type schema global ≡ CellType.Int → answer schema log (Query.Get global []) ≡ Answer.Int (int_plain (changes_of global log)) }
+    ensures { (schema : Schema) (log : List Update) (global : ℕ)
+        → cell_type schema global ≡ CellType.Int
+        → answer schema log (Query.Get global [])
+        ≡ Answer.Int (int_plain (changes_of global log)) }
 {}

@@ -6,8 +6,8 @@ use fj_core::IntChange;
 use fj_core::IntChange::{Add, Set};
 use std::test::Fail;
 
-/// What is done to two globals before a fork, in the child and in the parent after it, and the values
-/// at the fork and after the join.
+/// What is done to two globals before a fork, in the child and in the parent after it, and the
+/// values at the fork and after the join.
 struct Case {
     before: [IntChange; 2],
     child: [IntChange; 2],

@@ -3,7 +3,7 @@ use Rattle.cloud_base.specs.Answer.{answer}
 use Rattle.cloud_base.specs.Log.{of_cell}
 use Rattle.cloud_base.specs.PlainCell.{plain_value}
 use Rattle.cloud_base.specs.declared.update.Answer.TheVariants.{Int}
-use Rattle.global_cells.proofs.Logs.{plain_int-ints}
+use Rattle.fj_core.proofs.ChangeLemmas.{plain_int-ints}
 use Rattle.global_cells.proofs.globals.answers_are_plain.Goals as goal
 
 pub returns : goal.returns
