@@ -8,7 +8,8 @@ ghost use Rattle.cloud_parse.specs.Form.{Form, ActFits};
 ghost use Rattle.revision_diagram.specs.declared.step.Step.TheVariants.{Fork};
 ghost use Rattle.one_client.specs.Program.{schema_of, change_of};
 ghost use Rattle.one_client.specs.Steps.{Run, first_run, pull};
-ghost use Rattle.global_cells.specs.Cells.{CellsStand, to_change};
+ghost use Rattle.fj_core.specs.Changes.{of_int};
+ghost use Rattle.global_cells.specs.Cells.{CellsStand};
 ghost use Rattle.cloud_drive.specs.Play.{Follows, act_steps, after_act};
 
 use crate::player::{Player, Received};
@@ -42,7 +43,7 @@ pub fn start(alloc: Global, count: usize) -> Result<Player, Memory>
 
 fn int_change(operation: Operation, amount: Amount) -> IntChange
     requires { amount.number < 2 ^ 63 }
-    ensures { to_change result ≡ change_of operation amount }
+    ensures { of_int result ≡ change_of operation amount }
 {
     match operation {
         Operation::Add => IntChange::Add(amount.value()),
@@ -51,7 +52,7 @@ fn int_change(operation: Operation, amount: Amount) -> IntChange
 }
 
 fn update_of(global: u16, change: IntChange) -> Update
-    ensures { result ≡ Cell global [] (to_change change) }
+    ensures { result ≡ Cell global [] (of_int change) }
 {
     match change {
         IntChange::Add(number) => Update::Cell(global, Keys::empty(), CellChange::Add(number)),
