@@ -5,7 +5,7 @@ ghost use Rattle.cloud_base.specs.Sorted.{Lists};
 ghost use Rattle.cloud_base.specs.declared.key.Key.{Key};
 ghost use Rattle.fj_array.specs.declared.cell.Cell.{Cell};
 ghost use Rattle.fj_array.specs.declared.effect.CellEffect.{CellEffect};
-ghost use Rattle.fj_array.specs.Cells.{At, of_cell, is_id_lem, has_id_lem, without};
+ghost use Rattle.fj_array.specs.Cells.{At, of_cell, is_id, has_id, without};
 ghost use Rattle.fj_array.specs.Effects.{cell_of, effect_order};
 ghost use Rattle.fj_array.specs.Grids.{kept_at, IsIdle, CellStands, GridStands, Puts, AgreeElsewhere};
 
@@ -20,8 +20,9 @@ use std::marker::Model;
 
 /// The cells of all properties of one cell type.
 ///
-/// It stands for a log after a log, as each of its cells does for the changes of that cell. A cell with
-/// its default to which nothing was done isn't kept. After a refusal for memory a grid is as it was.
+/// It stands for a log after a log, as each of its cells does for the changes of that cell. A cell
+/// with its default to which nothing was done isn't kept. After a refusal for memory a grid is as
+/// it was.
 #[derive(Drop)]
 pub struct Grid<C: ForkJoin> {
     cells: BTreeMap<Cell, C>,
@@ -37,7 +38,7 @@ impl<C: ForkJoin> Model for Grid<C> {
     ghost view = { λ g. g.cells.entries };
 }
 
-/// Whether a cell has its default and nothing was done to it.
+// Whether a cell has its default and nothing was done to it.
 fn is_idle<C: ForkJoin>(state: &C) -> bool
     ensures { (base delta : List C.Change) → C.stands state.now base delta
         → (IsTrue result ↔ IsIdle C.plain C.effect_of base delta) }
@@ -45,7 +46,7 @@ fn is_idle<C: ForkJoin>(state: &C) -> bool
     state.is_default() && state.effect().is_none()
 }
 
-/// Whether a cell has another value than its default.
+// Whether a cell has another value than its default.
 fn is_set<C: ForkJoin>(state: &C) -> bool
     ensures { (base delta : List C.Change) → C.stands state.now base delta
         → (IsTrue result ↔ (C.plain (base ++ delta) ≢ C.plain [])) }
@@ -84,7 +85,7 @@ impl<C: ForkJoin> Grid<C> {
         }
     }
 
-    /// The state of a cell, also where it isn't kept.
+    // The state of a cell, also where it isn't kept.
     fn state_of(&self, cell: &Cell) -> C
         ensures { (base delta : List C.Change)
             → CellStands C.plain C.effect_of C.stands (kept_at self.now cell.now) base delta
@@ -96,7 +97,7 @@ impl<C: ForkJoin> Grid<C> {
         }
     }
 
-    /// Keeps a state for a cell, unless it is idle.
+    // Keeps a state for a cell, unless it is idle.
     fn keep(&mut self, cell: Cell, state: C) -> Result<(), Memory>
         ensures ok { OnOk result (Puts C.plain C.effect_of C.stands cell state self.old self.new) }
         ensures err { OnErr result (self.new ≡ self.old) }
@@ -113,8 +114,9 @@ impl<C: ForkJoin> Grid<C> {
     pub fn update(&mut self, property: u16, keys: &Keys, change: &C::Change) -> Result<(), Memory>
         ensures ok { OnOk result ((base delta : List (At C.Change))
             → GridStands C.plain C.effect_of C.stands self.old base delta
-            → GridStands C.plain C.effect_of C.stands self.new base
-            (delta ++ record { cell = record { property = property; keys = keys.now }; change = change.now } ∷ [])) }
+            → let cell : Cell = record { property = property; keys = keys.now } in
+            GridStands C.plain C.effect_of C.stands self.new base
+            (delta ++ record { cell = cell; change = change.now } ∷ [])) }
         ensures err { OnErr result (self.new ≡ self.old) }
     {
         cell_orders();
@@ -167,8 +169,11 @@ impl<C: ForkJoin> Grid<C> {
     }
 
     /// A grid with the same states.
-    fn copied(&self) -> Result<Grid<C>, Memory>
-        ensures { IfOk result (λ copy. (q : Cell) → kept_at copy q ≡ kept_at self.now q) }
+    pub fn copied(&self) -> Result<Grid<C>, Memory>
+        ensures same { IfOk result (λ copy. (q : Cell) → kept_at copy q ≡ kept_at self.now q) }
+        ensures stands { IfOk result (λ copy. (base delta : List (At C.Change))
+            → GridStands C.plain C.effect_of C.stands self.now base delta
+            → GridStands C.plain C.effect_of C.stands copy base delta) }
     {
         cell_orders();
         let mut copy: Grid<C> = Grid::new(self.alloc);
@@ -224,7 +229,8 @@ impl<C: ForkJoin> Grid<C> {
     pub fn purge(&mut self, id: Uid)
         ensures { (base delta : List (At C.Change))
             → GridStands C.plain C.effect_of C.stands self.old base delta
-            → GridStands C.plain C.effect_of C.stands self.new (without id base) (without id delta) }
+            → GridStands C.plain C.effect_of C.stands self.new
+            (without id base) (without id delta) }
     {
         cell_orders();
         self.cells.retain(|cell, _| !has_id(&cell.keys, id));
@@ -248,11 +254,13 @@ impl<C: ForkJoin> Grid<C> {
         Ok(list)
     }
 
-    /// What was done to each cell since the fork, where that is something, by property and then keys.
+    /// What was done to each cell since the fork, where that is something, by property and then
+    /// keys.
     pub fn effects(&self) -> Result<EffectList, Memory>
         ensures { IfOk result (λ list. (base delta : List (At C.Change))
             → GridStands C.plain C.effect_of C.stands self.now base delta
-            → Lists effect_order list (λ it. C.effect_of (of_cell (cell_of it) delta) ≡ Some it.effect)) }
+            → Lists effect_order list
+            (λ it. C.effect_of (of_cell (cell_of it) delta) ≡ Some it.effect)) }
     {
         cell_orders();
         let mut list = Sequence::new(self.alloc);
@@ -269,9 +277,9 @@ impl<C: ForkJoin> Grid<C> {
     }
 }
 
-/// Whether a key is this id.
+// Whether a key is this id.
 fn is_id(key: &Key, id: Uid) -> bool
-    ensures { result ≡ is_id_lem id key.now }
+    ensures { result ≡ is_id id key.now }
 {
     match key {
         Key::Ref(other) => *other == id,
@@ -279,9 +287,9 @@ fn is_id(key: &Key, id: Uid) -> bool
     }
 }
 
-/// Whether an id is one of the keys.
+// Whether an id is one of the keys.
 fn has_id(keys: &Keys, id: Uid) -> bool
-    ensures { result ≡ has_id_lem id keys.now }
+    ensures { result ≡ has_id id keys.now }
 {
     keys.as_slice().iter().any(|key| is_id(key, id))
 }

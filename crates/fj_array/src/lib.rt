@@ -15,7 +15,7 @@ pub use laws::cell_orders;
 mod tests {
     use crate::Grid;
     use cloud_base::{Key, Keys, Text, Uid};
-    use fj_core::{Effect, IntCell, IntChange, TextCell, TextChange};
+    use fj_core::{Effect, IntCell, IntChange, NonZero, TextCell, TextChange};
     use std::alloc::Global;
     use std::test::Fail;
 
@@ -29,7 +29,7 @@ mod tests {
         Ok(Text::new(bytes)?)
     }
 
-    /// The key that each kind has in these tests, by number.
+    // The key that each kind has in these tests, by number.
     fn key(kind: u8) -> Result<Keys, Fail> {
         Ok(one(match kind {
             0 => Key::Int(-3),
@@ -66,7 +66,7 @@ mod tests {
         Ok(())
     }
 
-    /// A number at each kind of key, two of another property, and one that came back to 0.
+    // A number at each kind of key, two of another property, and one that came back to 0.
     fn numbers(alloc: Global) -> Result<Grid<IntCell>, Fail> {
         let mut grid: Grid<IntCell> = Grid::new(alloc);
         for (property, kind, number) in [(1, 0, 4), (0, 2, 6), (0, 1, 2), (0, 0, 5), (0, 1, -2)] {
@@ -87,16 +87,22 @@ mod tests {
         let list = grid.effects()?;
         let effects = list.as_slice();
         assert_eq!(rt; effects.len(), 3);
-        assert!(rt; effects[0].property == 0 && effects[0].keys == key(0)?);
-        assert!(rt; effects[1].property == 0 && effects[1].keys == key(2)?);
-        assert!(rt; effects[2].property == 1 && effects[2].keys == key(0)?);
+        for (place, (property, kind, number)) in [(0, 0, 5), (0, 2, 6), (1, 0, 4)]
+            .iter()
+            .enumerate()
+        {
+            let effect = &effects[place];
+            assert_eq!(rt; effect.property, *property);
+            assert!(rt; effect.keys == key(*kind)?);
+            assert!(rt; Some(effect.effect.copied()) == NonZero::new(*number).map(Effect::Add));
+        }
         Ok(())
     }
 
     #[test]
     fn forks_and_joins(rt: HostRuntime) -> Result<(), Fail> {
         let mut grid = numbers(rt.alloc())?;
-        let mut child = grid.fork()?;
+        let mut child = grid.copied()?.fork()?;
         assert!(rt; child.effects()?.is_empty());
         child.join_effect(1, &key(0)?, &Effect::SetInt(9))?;
         grid.join(&child)?;

@@ -20,7 +20,7 @@ loop-cell-init g c =
     let whole = i.0 ∙ c.child.view_is in
     let sorted = subst (λ (l : List (Cell × g.row.C.Denot)). IsStrictlySortedBy cell_order (keys_of l)) c.child.view_is i.5 in
     subst (λ (l : List (Cell × g.row.C.Denot)). Walked l (ToJoin f.plain f.effect_of f.stands c.args.self.now c.args.child.now c.in_ok-joined.joined) (Joined f.plain f.effect_of f.stands c.args.self.now c.args.child.now c.in_ok-joined.joined)) (sym whole)
-    (join_start f.plain f.effect_of f.stands laws c.args.self.now c.args.child.now c.in_ok-joined.joined c.in_ok-joined.ensures sorted)
+    (join_start f.plain f.effect_of f.stands laws c.args.self.now c.args.child.now c.in_ok-joined.joined c.in_ok-joined.ensures.same sorted)
 
 pub loop-cell-preserved : goal.loop-cell-preserved
 loop-cell-preserved g c =
