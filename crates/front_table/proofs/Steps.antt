@@ -7,7 +7,7 @@ use lib.ListN.{get_elem?}
 use Rattle.atomic_table.specs.Table.{keeps, Allows, Splits, Joins}
 use Rattle.atomic_table.proofs.Lists.{at_set, at_snoc, at_longer, set_else, set_again}
 use Rattle.front_table.specs.declared.view.View.{View}
-use Rattle.front_table.specs.Grown.{longer}
+use Rattle.front_table.specs.TokenView.{longer}
 use Rattle.front_table.specs.Chronicle.{Lives, Fits, IsKept, Tells, view, newcomer, appended, front_of, both_of, spent}
 
 same_words : (words : List ℕ) (n : ℕ) → words ≡ n ∷ [] → set words 0 (slice_index words 0) ≡ words

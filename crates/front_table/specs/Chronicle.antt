@@ -6,7 +6,7 @@ use lib.ListN.{get_elem?}
 use Rattle.atomic_table.specs.Table.{Me}
 use Rattle.atomic_table.specs.Seated.{TableId}
 use Rattle.front_table.specs.declared.view.View.{View}
-use Rattle.front_table.specs.Grown.{longer}
+use Rattle.front_table.specs.TokenView.{longer}
 
 module _ {E : Type 0} where
   -- the seat k has this view, which isn't spent

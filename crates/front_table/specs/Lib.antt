@@ -1,2 +1,2 @@
-pub mod Grown
 pub mod Chronicle
+pub mod TokenView

@@ -1,7 +1,7 @@
 // The writer of a chronicle and its fronts.
 ghost use Rattle.std.specs.Prelude.{◌≡◌, ◌+◌, ◌<◌, ◌^◌, [], ◌∷◌, ◌++◌, length, IfOk};
 ghost use mathlib.Core.List.{IsPrefix};
-ghost use Rattle.front_table.specs.Grown.{longer};
+ghost use Rattle.front_table.specs.TokenView.{longer};
 
 use crate::rule::{Appends, Chronicle, Copies, Looks, Meets, Named};
 use crate::view::View;
@@ -25,14 +25,14 @@ pub struct Writer<E> {
 impl<E> Model for Writer<E> {
     ghost use Rattle.std.specs.Prelude.{true};
     ghost use Rattle.std.specs.Arc.{arc_value};
-    ghost use Rattle.front_table.specs.Grown.{Grown, grown_coded};
+    ghost use Rattle.front_table.specs.TokenView.{TokenView, token_view_coded};
     ghost use Rattle.front_table.specs.Chronicle.{IsSeated};
 
-    ghost Value = { Grown E };
+    ghost Value = { TokenView E };
 
-    ghost coded = { grown_coded E.code };
+    ghost coded = { token_view_coded E.code };
 
-    ghost view = { λ w. record { table = w.seat.table_id; list = w.seat.me.0.list } };
+    ghost view = { λ w. record { chronicle = w.seat.table_id; list = w.seat.me.0.list } };
 
     ghost invariant = { λ w.
         IsSeated true (arc_value w.board).shared.table_id w.seat.table_id w.seat.me };
@@ -50,14 +50,14 @@ pub struct Front<E> {
 impl<E> Model for Front<E> {
     ghost use Rattle.std.specs.Prelude.{◌≡◌, length, false};
     ghost use Rattle.std.specs.Arc.{arc_value};
-    ghost use Rattle.front_table.specs.Grown.{Grown, grown_coded};
+    ghost use Rattle.front_table.specs.TokenView.{TokenView, token_view_coded};
     ghost use Rattle.front_table.specs.Chronicle.{IsSeated};
 
-    ghost Value = { Grown E };
+    ghost Value = { TokenView E };
 
-    ghost coded = { grown_coded E.code };
+    ghost coded = { token_view_coded E.code };
 
-    ghost view = { λ f. record { table = f.seat.table_id; list = f.seat.me.0.list } };
+    ghost view = { λ f. record { chronicle = f.seat.table_id; list = f.seat.me.0.list } };
 
     ghost invariant = { λ f.
         IsSeated false (arc_value f.board).shared.table_id f.seat.table_id f.seat.me
@@ -79,7 +79,7 @@ impl<E> Writer<E> {
         requires one { N.entries ≡ entry.now ∷ [] }
         requires room { length self.old.list + 1 < 2 ^ 64 }
         ensures list { self.new.list ≡ self.old.list ++ entry.now ∷ [] }
-        ensures same { self.new.table ≡ self.old.table }
+        ensures same { self.new.chronicle ≡ self.old.chronicle }
     {
         let _ = entry;
         self.board
@@ -87,11 +87,11 @@ impl<E> Writer<E> {
             .fetch_add::<Appends<N>>(&mut self.seat, 0, 1);
     }
 
-    /// Puts an entry at the end, by one fetch-and-add. Takes no memory.
+    /// Puts an entry at the end, by one fetch-and-add. It takes no memory.
     pub fn append(&mut self, entry: &E)
         requires room { length self.old.list + 1 < 2 ^ 64 }
         ensures list { self.new.list ≡ self.old.list ++ entry.now ∷ [] }
-        ensures same { self.new.table ≡ self.old.table }
+        ensures same { self.new.chronicle ≡ self.old.chronicle }
     {
         self.append_named::<Brand>(entry);
     }
@@ -107,9 +107,9 @@ impl<E> Writer<E> {
         Ok(Front { board, seat, count })
     }
 
-    /// Tells that a front's list is a beginning of the writer's. Takes no memory.
+    /// Tells that a front's list is a beginning of the writer's. It takes no memory.
     pub fn meet(&mut self, front: Front<E>)
-        requires chronicle { front.table ≡ self.old.table }
+        requires chronicle { front.chronicle ≡ self.old.chronicle }
         ensures prefix { IsPrefix front.list self.new.list }
         ensures same { self.new ≡ self.old }
     {
@@ -143,13 +143,13 @@ impl<E> Front<E> {
         Ok(Front { board, seat, count })
     }
 
-    /// Takes another front in: the longer list stays. Takes no memory.
+    /// Takes another front in: the longer list stays. It takes no memory.
     pub fn meet(&mut self, other: Front<E>)
-        requires chronicle { other.table ≡ self.old.table }
+        requires chronicle { other.chronicle ≡ self.old.chronicle }
         ensures longer { self.new.list ≡ longer self.old.list other.list }
         ensures own { IsPrefix self.old.list self.new.list }
         ensures others { IsPrefix other.list self.new.list }
-        ensures same { self.new.table ≡ self.old.table }
+        ensures same { self.new.chronicle ≡ self.old.chronicle }
     {
         let Front { board, seat, count } = other;
         self.board.shared.join_seat::<Meets>(&mut self.seat, seat);
@@ -191,7 +191,7 @@ mod tests {
     fn append_twice<E>(mut writer: Writer<E>, entry: &E) -> Writer<E>
         requires room { length writer.list + 2 < 2 ^ 64 }
         ensures list { result.list ≡ writer.list ++ entry.now ∷ entry.now ∷ [] }
-        ensures same { result.table ≡ writer.table }
+        ensures same { result.chronicle ≡ writer.chronicle }
     {
         writer.append(entry);
         writer.append(entry);
@@ -207,10 +207,10 @@ mod tests {
         two: Front<E>,
     ) -> (Writer<E>, Front<E>)
         requires room { length writer.list + 2 < 2 ^ 64 }
-        requires chronicle { (one.table ≡ writer.table) × (two.table ≡ writer.table) }
+        requires chronicle { (one.chronicle ≡ writer.chronicle) × (two.chronicle ≡ writer.chronicle) }
         ensures list { result.0.list ≡ writer.list ++ entry.now ∷ entry.now ∷ [] }
         ensures front { result.1.list ≡ longer one.list two.list }
-        ensures chronicle { (result.0.table ≡ writer.table) × (result.1.table ≡ writer.table) }
+        ensures chronicle { (result.0.chronicle ≡ writer.chronicle) × (result.1.chronicle ≡ writer.chronicle) }
     {
         thread::join(
             rt,

@@ -1,3 +1,4 @@
+// What a seat of a chronicle knows of it.
 use std::collections::LinkedList;
 
 /// What a seat of a chronicle's table knows. No value of it is made.

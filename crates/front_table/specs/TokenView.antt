@@ -3,12 +3,12 @@ use Rattle.std.specs.Prelude.{◌≡◌, ℕ, List, [], ◌∷◌, length, nat_l
 use Rattle.std.specs.Coded.{Coded, code_by, coded×, coded_list}
 use Rattle.atomic_table.specs.Seated.{TableId, table_id_coded}
 
-pub record Grown (E : Type 0) : Type 0 where
-  pub table : TableId
+pub record TokenView (E : Type 0) : Type 0 where
+  pub chronicle : TableId
   pub list : List E
 
-abbrev pub grown_coded : {E : Type 0} → Coded E → Coded (Grown E)
-grown_coded {E} c = code_by (TableId × List E) (coded× table_id_coded (coded_list c)) (λ g. (g.table, g.list)) (λ p. record { table = p.0; list = p.1 }) (λ _. refl)
+abbrev pub token_view_coded : {E : Type 0} → Coded E → Coded (TokenView E)
+token_view_coded {E} c = code_by (TableId × List E) (coded× table_id_coded (coded_list c)) (λ g. (g.chronicle, g.list)) (λ p. record { chronicle = p.0; list = p.1 }) (λ _. refl)
 
 -- the longer of two lists, and the first where neither is longer
 abbrev pub longer : {E : Type 0} → List E → List E → List E
