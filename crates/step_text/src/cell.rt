@@ -38,7 +38,7 @@ fn write_keyed(out: &mut Vec<u8>, name: &str, keys: &[Key]) -> Result<(), Memory
 {
     out.extend_from_slice(name.as_bytes())?;
     out.push(b'[')?;
-    write_keys(&mut *out, keys)?;
+    write_keys(out, keys)?;
     out.push(b']')?;
     Ok(())
 }
@@ -54,8 +54,8 @@ fn write_cell_owner(
 {
     match owner {
         Owner::Global => return Ok(()),
-        Owner::Array(array) => write_keyed(&mut *out, array.as_str(), keys)?,
-        Owner::Entity(entity) => write_keyed(&mut *out, entity_name(schema, *entity), keys)?,
+        Owner::Array(array) => write_keyed(out, array.as_str(), keys)?,
+        Owner::Entity(entity) => write_keyed(out, entity_name(schema, *entity), keys)?,
     }
     out.push(b'.')?;
     Ok(())
@@ -65,7 +65,7 @@ fn write_cell(out: &mut Vec<u8>, schema: &Schema, number: u16, keys: &[Key]) -> 
     ensures { OnOk result (out.new.items ≡ out.old.items ++ cell_text schema.now number keys.now) }
 {
     if let Some(property) = property(schema, number) {
-        write_cell_owner(&mut *out, schema, &property.owner, keys)?;
+        write_cell_owner(out, schema, &property.owner, keys)?;
         out.extend_from_slice(property.name.as_str().as_bytes())?;
     }
     Ok(())
@@ -89,7 +89,7 @@ fn write_property(out: &mut Vec<u8>, schema: &Schema, number: u16) -> Result<(),
     ensures { OnOk result (out.new.items ≡ out.old.items ++ property_text schema.now number) }
 {
     if let Some(property) = property(schema, number) {
-        write_property_owner(&mut *out, schema, &property.owner)?;
+        write_property_owner(out, schema, &property.owner)?;
         out.extend_from_slice(property.name.as_str().as_bytes())?;
     }
     Ok(())
@@ -110,7 +110,7 @@ fn write_integer_argument(out: &mut Vec<u8>, operation: &[u8], number: i64) -> R
         ≡ out.old.items ++ (operation.now ++ signed_decimal number ++ codes ")")) }
 {
     out.extend_from_slice(operation)?;
-    write_integer(&mut *out, number)?;
+    write_integer(out, number)?;
     out.push(b')')?;
     Ok(())
 }
@@ -120,7 +120,7 @@ fn write_text_argument(out: &mut Vec<u8>, operation: &[u8], bytes: &[u8]) -> Res
         ≡ out.old.items ++ (operation.now ++ quoted bytes.now ++ codes ")")) }
 {
     out.extend_from_slice(operation)?;
-    write_quoted(&mut *out, bytes)?;
+    write_quoted(out, bytes)?;
     out.push(b')')?;
     Ok(())
 }
@@ -141,12 +141,12 @@ pub fn write_update(out: &mut Vec<u8>, schema: &Schema, update: &Update) -> Resu
 {
     match update {
         Update::Cell(property, keys, change) => {
-            write_cell(&mut *out, schema, *property, keys.as_slice())?;
+            write_cell(out, schema, *property, keys.as_slice())?;
             write_change(out, change)
         }
         Update::Create(id, entity, keys) => {
             out.extend_from_slice(b"new ")?;
-            write_created(&mut *out, entity_name(schema, *entity), keys.as_slice())?;
+            write_created(out, entity_name(schema, *entity), keys.as_slice())?;
             out.extend_from_slice(b" = ")?;
             write_id(out, *id)
         }

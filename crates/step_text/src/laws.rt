@@ -7,5 +7,7 @@ ghost use Rattle.revision_diagram.specs.declared.step.Step.{Step};
 
 /// A report's text tells its steps and its ends, where names are told apart.
 pub fn reports_tell_steps()
-    ensures { (schema : Schema) (names : List (List ℕ)) (steps : List Step) (ends : List End) → Legible schema names → All (IsStep schema names) steps → All IsEnd ends → Told schema names steps ends }
+    ensures { (schema : Schema) (names : List (List ℕ)) (steps : List Step) (ends : List End)
+        → Legible schema names → All (IsStep schema names) steps → All IsEnd ends
+        → Told schema names steps ends }
 {}

@@ -1,10 +1,9 @@
 // Reports whose text is known.
-use crate::{answer_text, end_text, query_text, report, step_text, update_text};
+use crate::{Step, answer_text, end_text, lines, query_text, step_text, update_text};
 use cloud_base::{
     Answer, CellChange, CellType, End, Entity, Key, KeyType, Keys, Name, Owner, Property, Query,
     Schema, Sequence, Text, Uid, Update,
 };
-use revision_diagram::Step;
 use std::alloc::Global;
 use std::test::Fail;
 
@@ -134,7 +133,7 @@ fn grocery_list(alloc: Global) -> Result<Vec<u8>, Fail> {
         Step::Ask(9, Query::Get(0, of_text("milk")), Answer::Int(2)),
         Step::Say(9, Answer::Int(2)),
     ];
-    Ok(report(
+    Ok(lines(
         alloc,
         &schema,
         &names,
@@ -256,7 +255,7 @@ fn deletion(alloc: Global) -> Result<Vec<u8>, Fail> {
         Step::Ask(10, Query::Alive(Uid::new(0, 1)), Answer::Truth(false)),
         Step::Say(10, Answer::Truth(false)),
     ];
-    Ok(report(alloc, &schema, &names, &steps, &[End::Done, End::Done])?)
+    Ok(lines(alloc, &schema, &names, &steps, &[End::Done, End::Done])?)
 }
 
 /// What each other call prints.

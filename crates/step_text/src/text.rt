@@ -1,11 +1,11 @@
-// A report, and its parts.
+// The lines of a report, and their parts.
 ghost use Rattle.std.specs.Prelude.{◌≡◌, ◌++◌, ◌+◌, ◌≤◌, length, OnOk, IfOk, suc};
 ghost use Rattle.step_text.specs.Values.{answer_text};
 ghost use Rattle.step_text.specs.Cells.{update_text, query_text};
 ghost use Rattle.step_text.specs.Text.{step_line, steps_text, end_text, ends_text, report_text};
 
 use crate::cell::{write_query, write_update};
-use crate::line::{client_name, write_end, write_end_line, write_step};
+use crate::step_line::{client_name, write_end, write_end_line, write_step};
 use crate::value::write_answer;
 use cloud_base::{Answer, End, Memory, Name, Query, Schema, Update};
 use revision_diagram::Step;
@@ -74,7 +74,7 @@ fn write_steps(
 {
     let mut forks: u64 = 0;
     for step in steps {
-        write_step(&mut *out, schema, names, forks + 1, step)?;
+        write_step(out, schema, names, forks + 1, step)?;
         if let Step::Fork(_, _) = step {
             forks += 1;
         }
@@ -86,15 +86,15 @@ fn write_ends(out: &mut Vec<u8>, names: &[Name], ends: &[End]) -> Result<(), Mem
     ensures { OnOk result (out.new.items ≡ out.old.items ++ ends_text names.now 0 ends.now) }
 {
     for (client, end) in ends.iter().enumerate() {
-        write_end_line(&mut *out, client_name(names, client), *end)?;
+        write_end_line(out, client_name(names, client), *end)?;
     }
     Ok(())
 }
 
-/// The text of a report: a line for each step, and then one for the end of each client, by number.
+/// The lines of a report: one for each step, and then one for the end of each client, by number.
 ///
 /// A property, an entity or a client that isn't there has the empty name.
-pub fn report(
+pub fn lines(
     alloc: Global,
     schema: &Schema,
     names: &[Name],

@@ -47,7 +47,7 @@ pub fn write_quoted(out: &mut Vec<u8>, bytes: &[u8]) -> Result<(), Memory>
 {
     out.push(b'"')?;
     for byte in bytes {
-        write_escaped(&mut *out, *byte)?;
+        write_escaped(out, *byte)?;
     }
     out.push(b'"')?;
     Ok(())
@@ -57,7 +57,7 @@ pub fn write_id(out: &mut Vec<u8>, id: Uid) -> Result<(), Memory>
     ensures { OnOk result (out.new.items ≡ out.old.items ++ id_text id) }
 {
     out.push(b'@')?;
-    write_natural(&mut *out, u64::from(id.client()))?;
+    write_natural(out, u64::from(id.client()))?;
     out.push(b'.')?;
     write_natural(out, u64::from(id.serial()))
 }
@@ -70,7 +70,7 @@ fn write_truth(out: &mut Vec<u8>, truth: bool) -> Result<(), Memory>
     Ok(())
 }
 
-/// What lists are made of.
+// What lists are made of.
 trait Item {
     ghost text: { Self → List ℕ };
 
@@ -103,21 +103,21 @@ impl Item for Keys {
 
     fn write(&self, out: &mut Vec<u8>) -> Result<(), Memory> {
         out.push(b'(')?;
-        write_separated(&mut *out, self.as_slice())?;
+        write_separated(out, self.as_slice())?;
         out.push(b')')?;
         Ok(())
     }
 }
 
-/// The items, with a comma and a space between them.
+// The items, with a comma and a space between them.
 fn write_separated<T: Item>(out: &mut Vec<u8>, items: &[T]) -> Result<(), Memory>
     ensures { OnOk result (out.new.items ≡ out.old.items ++ join_by T.text (codes ", ") items.now) }
 {
     if let Some((first, rest)) = items.split_first() {
-        first.write(&mut *out)?;
+        first.write(out)?;
         for item in rest {
             out.extend_from_slice(b", ")?;
-            item.write(&mut *out)?;
+            item.write(out)?;
         }
     }
     Ok(())
@@ -134,7 +134,7 @@ fn write_list<T: Item>(out: &mut Vec<u8>, items: &[T]) -> Result<(), Memory>
         ≡ out.old.items ++ (codes "[" ++ join_by T.text (codes ", ") items.now ++ codes "]")) }
 {
     out.push(b'[')?;
-    write_separated(&mut *out, items)?;
+    write_separated(out, items)?;
     out.push(b']')?;
     Ok(())
 }

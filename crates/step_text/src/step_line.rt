@@ -1,4 +1,4 @@
-// The lines of a report.
+// How steps and ends are printed.
 ghost use Rattle.std.specs.Prelude.{◌≡◌, ◌++◌, [], ◌∷◌, OnOk, codes, decimal};
 ghost use Rattle.step_text.specs.Cells.{query_text};
 ghost use Rattle.step_text.specs.Values.{answer_text};
@@ -18,23 +18,23 @@ pub fn client_name(names: &[Name], client: usize) -> &str
     }
 }
 
-/// A word, the number of a revision and a space.
+// A word, the number of a revision and a space.
 fn write_start(out: &mut Vec<u8>, word: &[u8], revision: u32) -> Result<(), Memory>
     ensures { OnOk result (out.new.items
         ≡ out.old.items ++ (word.now ++ decimal revision ++ codes " ")) }
 {
     out.extend_from_slice(word)?;
-    write_natural(&mut *out, u64::from(revision))?;
+    write_natural(out, u64::from(revision))?;
     out.push(b' ')?;
     Ok(())
 }
 
 fn write_fork(out: &mut Vec<u8>, revision: u32, next: u64, name: &str) -> Result<(), Memory>
-    ensures { OnOk result (out.new.items ≡ out.old.items
-        ++ (codes "fork " ++ decimal revision ++ codes " " ++ decimal next ++ codes " " ++ name.now)) }
+    ensures { OnOk result (out.new.items ≡ out.old.items ++ (codes "fork " ++ decimal revision
+        ++ codes " " ++ decimal next ++ codes " " ++ name.now)) }
 {
-    write_start(&mut *out, b"fork ", revision)?;
-    write_natural(&mut *out, next)?;
+    write_start(out, b"fork ", revision)?;
+    write_natural(out, next)?;
     out.push(b' ')?;
     out.extend_from_slice(name.as_bytes())?;
     Ok(())
@@ -50,8 +50,8 @@ fn write_ask(
     ensures { OnOk result (out.new.items ≡ out.old.items ++ (codes "ask " ++ decimal revision
         ++ codes " " ++ query_text schema.now query.now ++ codes " = " ++ answer_text answer.now)) }
 {
-    write_start(&mut *out, b"ask ", revision)?;
-    write_query(&mut *out, schema, query)?;
+    write_start(out, b"ask ", revision)?;
+    write_query(out, schema, query)?;
     out.extend_from_slice(b" = ")?;
     write_answer(out, answer)
 }
@@ -78,30 +78,30 @@ pub fn write_step(
     match step {
         Step::Fork(revision, client) => {
             write_fork(
-                &mut *out,
+                out,
                 *revision,
                 next,
                 client_name(names, usize::from(*client)),
             )?;
         }
         Step::Join(revision, joined) => {
-            write_start(&mut *out, b"join ", *revision)?;
-            write_natural(&mut *out, u64::from(*joined))?;
+            write_start(out, b"join ", *revision)?;
+            write_natural(out, u64::from(*joined))?;
         }
         Step::Do(revision, update) => {
-            write_start(&mut *out, b"do ", *revision)?;
-            write_update(&mut *out, schema, update)?;
+            write_start(out, b"do ", *revision)?;
+            write_update(out, schema, update)?;
         }
         Step::Ask(revision, query, answer) => {
-            write_ask(&mut *out, schema, *revision, query, answer)?;
+            write_ask(out, schema, *revision, query, answer)?;
         }
         Step::Say(revision, answer) => {
-            write_start(&mut *out, b"say ", *revision)?;
-            write_answer(&mut *out, answer)?;
+            write_start(out, b"say ", *revision)?;
+            write_answer(out, answer)?;
         }
         Step::Mark(revision, flush) => {
-            write_start(&mut *out, b"mark ", *revision)?;
-            write_mark(&mut *out, *flush)?;
+            write_start(out, b"mark ", *revision)?;
+            write_mark(out, *flush)?;
         }
     }
     out.push(b'\n')?;
@@ -129,7 +129,7 @@ pub fn write_end_line(out: &mut Vec<u8>, name: &str, end: End) -> Result<(), Mem
     out.extend_from_slice(b"end ")?;
     out.extend_from_slice(name.as_bytes())?;
     out.push(b' ')?;
-    write_end(&mut *out, end)?;
+    write_end(out, end)?;
     out.push(b'\n')?;
     Ok(())
 }
