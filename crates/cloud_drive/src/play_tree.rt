@@ -10,7 +10,7 @@ ghost use Rattle.cloud_drive.specs.Play.{yields_in};
 use crate::act::{act, start};
 use cloud_base::{CellType, End, Memory, Owner, Property, Schema, Sequence};
 use cloud_parse::{Act, Tree};
-use step_text::report;
+use step_text::lines;
 use revision_diagram::StepList;
 use std::alloc::Global;
 use std::slice;
@@ -129,7 +129,7 @@ pub fn play(alloc: Global, tree: &Tree) -> Result<Vec<u8>, Memory>
     let schema = schema_of(alloc, tree)?;
     let steps = steps(alloc, tree)?;
     let end = end_of(tree);
-    report(
+    lines(
         alloc,
         &schema,
         slice::from_ref(tree.client()),
