@@ -1,6 +1,6 @@
 // Values, updates, queries, answers and events, and what the program reads from and writes to.
-// A method `copied()` takes no memory. A method `copy(alloc)` takes some, and fails only for want of
-// it.
+// A method `copied()` takes no memory. A method `copy(alloc)` takes some, and fails only for want
+// of it.
 #![tactic(auto)]
 
 mod batch;
