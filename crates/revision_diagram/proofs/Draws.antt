@@ -56,12 +56,6 @@ revisions-Join steps r s = drawn (λ d. d.revisions) steps (Join r s)
 pub owner-Join : (steps : List Step) (r s x : ℕ) → owner (steps ++ Join r s ∷ []) x ≡ owner steps x
 owner-Join steps r s x = drawn (λ d. d.owner x) steps (Join r s)
 
-pub fork-Join : (steps : List Step) (r s x : ℕ) → fork (steps ++ Join r s ∷ []) x ≡ fork steps x
-fork-Join steps r s x = drawn (λ d. d.fork x) steps (Join r s)
-
-pub fork_length-Join : (steps : List Step) (r s x : ℕ) → fork_length (steps ++ Join r s ∷ []) x ≡ fork_length steps x
-fork_length-Join steps r s x = drawn (λ d. d.fork_length x) steps (Join r s)
-
 -- a Do, Ask, Say or Mark
 revisions_acted : (d : Diagram) (r : ℕ) (s : Step) → acts_on s ≡ Some r → (after d s).revisions ≡ d.revisions
 revisions_acted d r (Fork x c) e = cc
@@ -87,22 +81,6 @@ owner_acted y d r (Ask x q a) e = refl
 owner_acted y d r (Say x v) e = refl
 owner_acted y d r (Mark x flush) e = refl
 
-fork_acted : (x : ℕ) (d : Diagram) (r : ℕ) (s : Step) → acts_on s ≡ Some r → (after d s).fork x ≡ d.fork x
-fork_acted y d r (Fork x c) e = cc
-fork_acted y d r (Join x z) e = cc
-fork_acted y d r (Do x u) e = refl
-fork_acted y d r (Ask x q a) e = refl
-fork_acted y d r (Say x v) e = refl
-fork_acted y d r (Mark x flush) e = refl
-
-fork_length_acted : (x : ℕ) (d : Diagram) (r : ℕ) (s : Step) → acts_on s ≡ Some r → (after d s).fork_length x ≡ d.fork_length x
-fork_length_acted y d r (Fork x c) e = cc
-fork_length_acted y d r (Join x z) e = cc
-fork_length_acted y d r (Do x u) e = refl
-fork_length_acted y d r (Ask x q a) e = refl
-fork_length_acted y d r (Say x v) e = refl
-fork_length_acted y d r (Mark x flush) e = refl
-
 -- the past of a step on r
 abbrev pub stepped_past : ℕ → Diagram → ℕ → ℕ → Bool
 stepped_past r d x i = put r (with_place (d.past r) d.places) d.past x i
@@ -123,12 +101,6 @@ live-act steps s r x e = drawn (λ d. d.live x) steps s ∙ live_acted x (diagra
 
 pub owner-act : (steps : List Step) (s : Step) (r x : ℕ) → acts_on s ≡ Some r → owner (steps ++ s ∷ []) x ≡ owner steps x
 owner-act steps s r x e = drawn (λ d. d.owner x) steps s ∙ owner_acted x (diagram steps) r s e
-
-pub fork-act : (steps : List Step) (s : Step) (r x : ℕ) → acts_on s ≡ Some r → fork (steps ++ s ∷ []) x ≡ fork steps x
-fork-act steps s r x e = drawn (λ d. d.fork x) steps s ∙ fork_acted x (diagram steps) r s e
-
-pub fork_length-act : (steps : List Step) (s : Step) (r x : ℕ) → acts_on s ≡ Some r → fork_length (steps ++ s ∷ []) x ≡ fork_length steps x
-fork_length-act steps s r x e = drawn (λ d. d.fork_length x) steps s ∙ fork_length_acted x (diagram steps) r s e
 
 pub past-act : (steps : List Step) (s : Step) (r x i : ℕ) → acts_on s ≡ Some r → past (steps ++ s ∷ []) x i ≡ put r (with_place (past steps r) (length steps)) (past steps) x i
 past-act steps s r x i e = drawn (λ d. d.past x i) steps s ∙ past_acted x i (diagram steps) r s e ∙ ap (λ (n : ℕ). put r (with_place (past steps r) n) (past steps) x i) (diagram-places steps)

@@ -110,7 +110,7 @@ at_most_once steps r i h = elim (cases_Bool (past steps r i && is_do steps i)) [
   | inr none ↦ let e : times_on (path steps r) i ≡ 0 = h i ∙ ap (λ (b : Bool). cond b 1 0) none in omega arith
 ]
 
-not_from : (b : Bool) → (b ≡ true → ⊥) → not b ≡ true
+pub not_from : (b : Bool) → (b ≡ true → ⊥) → not b ≡ true
 not_from true h = absurd (h refl)
 not_from false h = refl
 

@@ -10,4 +10,7 @@ pub mod KeepsOnce
 pub mod Places
 pub mod Stories
 pub mod Kept
-pub mod Rows
+pub mod Frames
+pub mod Apart
+pub mod Flushes
+pub mod Owners

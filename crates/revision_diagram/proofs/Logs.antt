@@ -1,9 +1,9 @@
 -- Paths hold places of Do steps alone, so a log grows with its path.
-use Rattle.std.proofs.Common.{◌≡◌, ℕ, zero, suc, ◌+◌, ◌<◌, Bool, true, false, cond, List, [], ◌∷◌, ◌++◌, length, drop, take, refl, sym, ap, ◌∙◌, arith, get_or, Option, Some, None}
+use Rattle.std.proofs.Common.{◌≡◌, ℕ, zero, suc, ◌<◌, ◌≤◌, Bool, true, false, cond, List, [], ◌∷◌, ◌++◌, length, drop, take, refl, sym, ap, ◌∙◌, arith, Option, Some, None}
 use Rattle.std.specs.Prelude.{◌==◌, slice_get}
-use Rattle.std.specs.List.{list_all, cons_option}
+use Rattle.std.specs.List.{list_all}
 use Rattle.std.proofs.lemmas.Bool.{and_parts, and_from, false≢true}
-use Rattle.std.proofs.lemmas.List.{take-append-drop, take_more}
+use Rattle.std.proofs.lemmas.List.{take-append-drop}
 use Rattle.std.proofs.lemmas.List.Folds.{list_all-append}
 use Rattle.std.proofs.lemmas.List.Elements.{filter_map-append}
 use Rattle.cloud_base.specs.declared.update.Update.{Update}
@@ -26,6 +26,11 @@ slice_get-front (x ∷ xs) ys (suc i) l = slice_get-front xs ys i (omega arith)
 pub slice_get-last : (xs : List Step) (s : Step) → slice_get (xs ++ s ∷ []) (length xs) ≡ Some s
 slice_get-last [] s = refl
 slice_get-last (x ∷ xs) s = slice_get-last xs s
+
+pub slice_get-none : (xs : List Step) (i : ℕ) → length xs ≤ i → slice_get xs i ≡ None
+slice_get-none [] i l = refl
+slice_get-none (x ∷ xs) zero l = absurd (omega arith)
+slice_get-none (x ∷ xs) (suc i) l = slice_get-none xs i (omega arith)
 
 -- a step that is there stays
 pub slice_get-kept : (xs ys : List Step) (i : ℕ) (s : Step) → slice_get xs i ≡ Some s → slice_get (xs ++ ys) i ≡ Some s
@@ -151,8 +156,3 @@ log-Say steps r v x = logged steps (Say r v) x (path steps x) (path-Say steps r 
 
 pub log-Mark : (steps : List Step) (r : ℕ) (flush : Bool) (x : ℕ) → log (steps ++ Mark r flush ∷ []) x ≡ log steps x
 log-Mark steps r flush x = logged steps (Mark r flush) x (path steps x) (path-Mark steps r flush x) ∙ log-kept steps (Mark r flush) x
-
--- the updates at one place more
-pub updates_at-more : (steps : List Step) (places : List ℕ) (i d : ℕ) → i < length places → updates_at steps (take (i + 1) places) ≡ updates_at steps (take i places) ++ cons_option (update_of (slice_get steps (get_or places i d))) []
-updates_at-more steps places i d l =
-    ap (updates_at steps) (take_more places i d l) ∙ updates_at-append steps (take i places) (get_or places i d ∷ [])

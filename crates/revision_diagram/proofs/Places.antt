@@ -3,7 +3,7 @@ use Rattle.std.proofs.Common.{◌≡◌, ℕ, zero, suc, List, [], ◌∷◌, �
 use Rattle.std.specs.Prelude.{◌↔◌, slice_get}
 use Rattle.revision_diagram.specs.declared.step.Step.{Step}
 use Rattle.revision_diagram.proofs.Steps.{EachFrom-front, EachFrom-last, EachStep-step, PrefixesFrom-front}
-use Rattle.revision_diagram.specs.Diagram.{EachFrom, EachStep, PrefixesFrom, EachPrefix, Diagram, diagram_from, diagram, after, start}
+use Rattle.revision_diagram.specs.Diagram.{EachFrom, EachStep, PrefixesFrom, EachPrefix}
 
 EachFrom-at : (P : List Step → Step → Type 0) (front steps : List Step) → EachFrom P front steps → (i : ℕ) (s : Step) → slice_get steps i ≡ Some s → P (front ++ take i steps) s
 EachFrom-at P front [] h i s e = cc
@@ -36,21 +36,6 @@ EachPrefix-at P steps h n = PrefixesFrom-at P [] steps h n
 
 pub EachPrefix-from : (P : List Step → Type 0) (steps : List Step) → ((n : ℕ) → P (take n steps)) → EachPrefix P steps
 EachPrefix-from P steps h = PrefixesFrom-from P [] steps h
-
--- some steps after others
-pub diagram_from-append : (d : Diagram) (front rest : List Step) → diagram_from d (front ++ rest) ≡ diagram_from (diagram_from d front) rest
-diagram_from-append d [] rest = refl
-diagram_from-append d (s ∷ front) rest = diagram_from-append (after d s) front rest
-
-pub diagram-append : (front rest : List Step) → diagram (front ++ rest) ≡ diagram_from (diagram front) rest
-diagram-append front rest = diagram_from-append start front rest
-
-pub EachFrom-append : (P : List Step → Step → Type 0) (front steps rest : List Step) → EachFrom P front steps → EachFrom P (front ++ steps) rest → EachFrom P front (steps ++ rest)
-EachFrom-append P front [] rest h k = subst (λ (t : List Step). EachFrom P t rest) (append-nil front) k
-EachFrom-append P front (s ∷ steps) rest h k = (h.0, EachFrom-append P (front ++ s ∷ []) steps rest h.1 (subst (λ (t : List Step). EachFrom P t rest) (sym (append_assoc front (s ∷ []) steps)) k))
-
-pub EachStep-append : (P : List Step → Step → Type 0) (steps rest : List Step) → EachStep P steps → EachFrom P steps rest → EachStep P (steps ++ rest)
-EachStep-append P steps rest h k = EachFrom-append P [] steps rest h k
 
 pub EachStep-more : (P : List Step → Step → Type 0) (steps : List Step) (s : Step) → EachStep P (steps ++ s ∷ []) ↔ (EachStep P steps × P steps s)
 EachStep-more P steps s = (λ h. (EachFrom-front P [] steps s h, EachFrom-last P [] steps s h), λ h. EachStep-step P steps s h.0 h.1)

@@ -7,7 +7,7 @@ use Rattle.cloud_base.specs.declared.update.Event.{Event}
 use Rattle.revision_diagram.specs.declared.step.Step.{Step}
 use Rattle.revision_diagram.specs.declared.step.Step.TheVariants.{Mark}
 use Rattle.revision_diagram.specs.Diagram.{places_of, is_of, owner}
-use Rattle.revision_diagram.specs.Story.{is_told, story, event_of, events, answer_of, answers_got}
+use Rattle.revision_diagram.specs.Story.{is_told, story, event_of, events}
 use Rattle.revision_diagram.specs.Meeting.{is_flush, flushes, is_mark, is_mark_at}
 use Rattle.revision_diagram.proofs.Steps.{by_steps, places_of-step}
 use Rattle.revision_diagram.proofs.Logs.{slice_get-front, slice_get-last}
@@ -64,9 +64,6 @@ events-step steps s c =
     ∙ filter_map-append f (story steps c) (cond (is_told c steps s) (length steps ∷ []) [])
     ∙ ap (λ (t : List Event). t ++ filter_map f (cond (is_told c steps s) (length steps ∷ []) [])) (events_kept steps (s ∷ []) (story steps c) (places_of-under (is_told c) steps))
     ∙ ap (λ (t : List Event). events steps c ++ t) (event_last steps s (is_told c steps s))
-
-pub answers_got-step : (steps : List Step) (s : Step) (c : ℕ) → answers_got (steps ++ s ∷ []) c ≡ answers_got steps c ++ filter_map answer_of (event_told (is_told c steps s) s)
-answers_got-step steps s c = ap (filter_map answer_of) (events-step steps s c) ∙ filter_map-append answer_of (events steps c) (event_told (is_told c steps s) s)
 
 pub last_or-append : (o : Option ℕ) (xs : List ℕ) (x : ℕ) → last_or o (xs ++ x ∷ []) ≡ Some x
 last_or-append o [] x = refl

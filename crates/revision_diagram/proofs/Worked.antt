@@ -1,6 +1,7 @@
 -- Worked diagrams: a grocery list, which is right, and small wrong ones.
-use Rattle.std.specs.Prelude.{◌≡◌, ℕ, ◌+◌, Bool, true, false, cond, ◌&&◌, not, ◌==◌, List, [], ◌∷◌, map, Option, Some, None, pos, refl}
-use Rattle.std.proofs.Common.{lit<, arith}
+use Rattle.std.specs.Prelude.{◌≡◌, ℕ, zero, suc, ◌+◌, ◌<◌, Bool, true, false, cond, ◌&&◌, not, ◌==◌, List, [], ◌∷◌, ◌++◌, length, map, slice_get, Option, Some, None, IsTrue, pos, refl}
+use Rattle.std.proofs.Common.{lit<, arith, subst}
+use Rattle.std.proofs.lemmas.Bool.{false≢true, or_right}
 use Rattle.std.proofs.lemmas.Bool.Decides.{nat_tests}
 use Rattle.std.specs.List.{filter}
 use Rattle.cloud_base.specs.declared.update.Update.{Update}
@@ -12,18 +13,24 @@ use Rattle.cloud_base.specs.declared.update.Answer.{Answer}
 use Rattle.cloud_base.specs.declared.update.Answer.TheVariants.{Int, Text, Truth, Tuples}
 use Rattle.cloud_base.specs.declared.update.Event.{Event}
 use Rattle.cloud_base.specs.declared.update.Event.TheVariants.{Do as DoEvent, Ask as AskEvent, Say as SayEvent, Flush}
+use Rattle.cloud_base.specs.Events.{Outcome, ended}
+use Rattle.cloud_base.specs.declared.schema.CellType.TheVariants.{Int as IntCell}
+use Rattle.cloud_base.specs.declared.schema.Owner.TheVariants.{Global}
+use Rattle.cloud_base.specs.declared.schema.Schema.{Schema}
 use Rattle.cloud_base.specs.declared.end.End.{End}
 use Rattle.cloud_base.specs.declared.end.End.TheVariants.{Done}
 use Rattle.cloud_base.specs.declared.key.Key.{Key}
 use Rattle.cloud_base.specs.declared.key.Key.TheVariants.{Text as TextKey}
 use Rattle.revision_diagram.specs.declared.step.Step.{Step}
 use Rattle.revision_diagram.specs.declared.step.Step.TheVariants.{Fork, Join, Do, Ask, Say, Mark}
-use Rattle.revision_diagram.specs.Diagram.{path, acts_on}
+use Rattle.revision_diagram.specs.Diagram.{path, fork_length, acts_on, is_of}
 use Rattle.revision_diagram.specs.Lawful.{is_lawful, Lawful}
-use Rattle.revision_diagram.specs.Right.{AnsweredRight}
+use Rattle.revision_diagram.specs.Right.{log, AnsweredRight}
 use Rattle.revision_diagram.specs.Once.{Once, AfterSeen, joins_apart}
 use Rattle.revision_diagram.specs.Story.{story, is_in_line, LineLaw, ProgramLaw}
-use Rattle.revision_diagram.specs.Meeting.{Meeting, Placed, AtMarks, FlushLaw, is_placed, is_at_mark, below_server}
+use Rattle.revision_diagram.specs.Meeting.{Meeting, Placed, AtMarks, Flushed, FlushLaw, client_at, newest, forks_down, sees_after, is_placed, is_at_mark, below_server}
+use Rattle.revision_diagram.specs.Headline.{Headline, AllOwned}
+use Rattle.revision_diagram.proofs.Owners.{AllOwned-more}
 use Rattle.revision_diagram.proofs.Decide.{each_step_passes, once_passes, AnsweredRight_passes}
 
 -- A grocery list: Grocery["milk"].quantity and Grocery["eggs"].quantity are cells of property 0.
@@ -204,3 +211,91 @@ joins_other_client h = let no = h.1.1.0 in cc
 
 pub goes_on_in_flush : ¬ (FlushLaw below_server (Fork 0 0 ∷ flush 1 ∷ get 1 milk 0 ∷ []))
 goes_on_in_flush h = let at = h.0.later in let seen = h.0.seen in grind (arith, nat_tests, h.0.later, h.0.seen)
+
+-- a flush whose reply is pulled: it is met at the end
+abbrev pub flushed_once : List Step
+flushed_once = Fork 0 0 ∷ add 1 milk 2 ∷ flush 1 ∷ Fork 1 0 ∷ Join 0 1 ∷ Fork 0 0 ∷ Join 3 2 ∷ []
+
+pub met_at_end : Flushed below_server flushed_once 2 0
+met_at_end = record { join = 4; fork = 5; joined = refl; forked = refl; later = lit< tt; seen = refl }
+
+-- and so it is where the client goes on at the revision that has the reply
+pub met_further_on : Flushed below_server (flushed_once ++ get 3 milk 2 ∷ flush 3 ∷ []) 2 0
+met_further_on = record { join = 4; fork = 5; joined = refl; forked = refl; later = lit< tt; seen = refl }
+
+-- the last revision of a client, and who did what
+pub newest_revisions : (newest flushed_once 0 ≡ Some 3) × (newest grocery_list 1 ≡ Some 11) × (newest grocery_list 3 ≡ None)
+newest_revisions = (refl, refl, refl)
+
+pub who_did_what : (client_at grocery_list 17 ≡ Some 1) × (client_at grocery_list 12 ≡ Some 2) × (client_at grocery_list 10 ≡ None)
+who_did_what = (refl, refl, refl)
+
+-- revision 3 had no place at its fork, and has one now
+pub path_is_longer : (fork_length flushed_once 3 ≡ 1) × (path flushed_once 3 ≡ 1 ∷ []) × (length (log grocery_list 0) ≡ 3)
+path_is_longer = (refl, refl, refl)
+
+-- the client goes on at revision 2, which has not seen the reply
+abbrev pub goes_on_behind : List Step
+goes_on_behind = Fork 0 0 ∷ flush 1 ∷ Fork 1 0 ∷ Join 0 1 ∷ Fork 0 0 ∷ get 2 milk 0 ∷ []
+
+no_reply : (join fork : ℕ) → IsTrue (forks_down below_server goes_on_behind 0 fork) → IsTrue (sees_after goes_on_behind 0 1 fork) → join < fork → ⊥
+no_reply join zero forked seen later = omega arith
+no_reply join (suc zero) forked seen later = false≢true forked
+no_reply join (suc (suc zero)) forked seen later = false≢true forked
+no_reply join (suc (suc (suc fork))) forked seen later = grind (arith, nat_tests, seen)
+
+pub misses_the_reply : ¬ (FlushLaw below_server goes_on_behind)
+misses_the_reply h = no_reply h.0.join h.0.fork h.0.forked h.0.seen h.0.later
+
+-- Two clients, of which the first adds 2 and the second does nothing.
+abbrev pub counter : Schema
+counter = record { properties = record { name = 103 ∷ []; owner = Global; cell = IntCell; keys = [] } ∷ []; entities = [] }
+
+abbrev pub add_two : Update
+add_two = Cell 0 [] (Add (pos 2))
+
+abbrev pub adds : List Answer → List Event × Outcome
+adds answers = (DoEvent add_two ∷ [], ended Done)
+
+abbrev pub idle : List Answer → List Event × Outcome
+idle answers = ([], ended Done)
+
+abbrev pub two_clients : List Step
+two_clients = Fork 0 0 ∷ Fork 0 1 ∷ Do 1 add_two ∷ []
+
+two_programs : (c : ℕ) (trace : List Answer → List Event × Outcome) (end : End) → slice_get (adds ∷ idle ∷ []) c ≡ Some trace → slice_get (Done ∷ Done ∷ []) c ≡ Some end → ProgramLaw trace (ended end) two_clients c
+two_programs zero trace end t e =
+    let is : adds ≡ trace = cc in
+    let ends : Done ≡ end = cc in
+    subst (λ (x : End). ProgramLaw trace (ended x) two_clients 0) ends (subst (λ (p : List Answer → List Event × Outcome). ProgramLaw p (ended Done) two_clients 0) is refl)
+two_programs (suc zero) trace end t e =
+    let is : idle ≡ trace = cc in
+    let ends : Done ≡ end = cc in
+    subst (λ (x : End). ProgramLaw trace (ended x) two_clients 1) ends (subst (λ (p : List Answer → List Event × Outcome). ProgramLaw p (ended Done) two_clients 1) is refl)
+two_programs (suc (suc c)) trace end t e = let no : None ≡ Some trace = t in cc
+
+two_owners : AllOwned below_server 2 two_clients
+two_owners =
+    (AllOwned-more below_server 2 (Fork 0 0 ∷ Fork 0 1 ∷ []) (Do 1 add_two)).1 (
+      (AllOwned-more below_server 2 (Fork 0 0 ∷ []) (Fork 0 1)).1 (
+        (AllOwned-more below_server 2 [] (Fork 0 0)).1 (λ r m e. let no : None ≡ Some m = e in absurd (cc no), refl),
+        refl,
+      ),
+      refl,
+    )
+
+pub two_clients_run : Headline counter below_server (adds ∷ idle ∷ []) (Done ∷ Done ∷ []) two_clients
+two_clients_run = record {
+  lawful = each_step_passes is_lawful two_clients refl;
+  right = (tt, (tt, (tt, tt)));
+  once = once_passes two_clients refl;
+  meeting = record {
+    placed = each_step_passes (is_placed below_server) two_clients refl;
+    at_marks = each_step_passes (is_at_mark below_server) two_clients refl;
+    flushed = tt;
+  };
+  count = refl;
+  program = two_programs;
+  line = λ c. (refl, (refl, (or_right (not (is_of c (Some 0))) true refl, tt)));
+  owners = two_owners;
+}

@@ -4,4 +4,5 @@ pub mod Right
 pub mod Once
 pub mod Story
 pub mod Meeting
-pub mod Rows
+pub mod Untouched
+pub mod Headline

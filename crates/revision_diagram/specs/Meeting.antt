@@ -6,15 +6,16 @@ use Rattle.revision_diagram.specs.declared.step.Step.TheVariants.{Fork, Join, Do
 use Rattle.revision_diagram.specs.Diagram.{EachStep, places_of, acts_on, is_of, owner, past, revisions}
 use Rattle.revision_diagram.specs.Story.{story}
 
--- Nodes below the server: which of them are clients, and the node above each, None for the server.
--- A revision is of a node or of the server, as its owner says.
+-- Nodes below the server: which of them are clients and which are relays, and the node above each, None for
+-- the server. A revision is of a node or of the server, as its owner says.
 pub record Tree : Type 0 where
   pub is_client : ℕ → Bool
+  pub is_relay : ℕ → Bool
   pub parent : ℕ → Option ℕ
 
 -- clients directly below the server
 abbrev pub below_server : Tree
-below_server = record { is_client = λ c. true; parent = λ c. None }
+below_server = record { is_client = λ c. true; is_relay = λ c. false; parent = λ c. None }
 
 abbrev pub is_client : Tree → Option ℕ → Bool
 is_client tree (Some c) = tree.is_client c

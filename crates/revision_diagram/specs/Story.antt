@@ -1,6 +1,7 @@
 -- What a client did, in order: the places of its Do, Ask, Say and Mark steps.
 use Rattle.std.specs.Prelude.{◌≡◌, ℕ, Bool, true, false, ◌||◌, not, List, slice_get, Option, Some, None, IsTrue}
 use Rattle.std.specs.List.{filter_map, last_or}
+use Rattle.cloud_base.specs.Events.{answers_in}
 use Rattle.cloud_base.specs.declared.update.Answer.{Answer}
 use Rattle.cloud_base.specs.declared.update.Event.{Event}
 use Rattle.cloud_base.specs.declared.update.Event.TheVariants.{Do as DoEvent, Ask as AskEvent, Say as SayEvent, Yield, Flush}
@@ -33,16 +34,9 @@ event_of None = None
 abbrev pub events : List Step → ℕ → List Event
 events steps c = filter_map (λ i. event_of (slice_get steps i)) (story steps c)
 
-abbrev pub answer_of : Event → Option Answer
-answer_of (AskEvent q a) = Some a
-answer_of (DoEvent u) = None
-answer_of (SayEvent v) = None
-answer_of Yield = None
-answer_of Flush = None
-
 -- the answers that c got, in order
 abbrev pub answers_got : List Step → ℕ → List Answer
-answers_got steps c = filter_map answer_of (events steps c)
+answers_got steps c = answers_in (events steps c)
 
 -- c did what its trace says for the answers that it got, up to this end
 abbrev pub ProgramLaw : {Outcome : Type 0} → (List Answer → List Event × Outcome) → Outcome → List Step → ℕ → Type 0

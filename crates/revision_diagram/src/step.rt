@@ -3,10 +3,10 @@ use cloud_base::{Answer, End, Query, Sequence, Update};
 
 /// One step of a revision diagram.
 ///
-/// Revisions go by number, and revision 0, the server, is there at the start. `Fork` is of a revision,
-/// for a client: the new revision has the next free number. `Join` is into its first revision, and
-/// the second ends. The others are on their revision, and a `Mark` is a flush where it is `true` and
-/// else a yield.
+/// Revisions go by number, and revision 0, the server, is there at the start. `Fork` is of a
+/// revision, for a client: the new revision has the next free number. `Join` is into its first
+/// revision, and the second ends. The others are on their revision, and a `Mark` is a flush where
+/// it is `true` and else a yield.
 #[derive(Drop)]
 pub enum Step {
     Fork(u32, u8),

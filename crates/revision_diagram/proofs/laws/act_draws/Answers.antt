@@ -1,5 +1,5 @@
 -- The law, from the lemmas on one step more.
-use Rattle.revision_diagram.proofs.Draws.{revisions-act, live-act, owner-act, past-act, fork-act, fork_length-act}
+use Rattle.revision_diagram.proofs.Draws.{revisions-act, live-act, owner-act, past-act}
 use Rattle.revision_diagram.proofs.laws.act_draws.Goals as goal
 
 pub returns-clause-revisions : goal.returns-clause-revisions
@@ -13,9 +13,3 @@ returns-clause-owner c = owner-act
 
 pub returns-clause-past : goal.returns-clause-past
 returns-clause-past c = past-act
-
-pub returns-clause-fork : goal.returns-clause-fork
-returns-clause-fork c = fork-act
-
-pub returns-clause-fork_length : goal.returns-clause-fork_length
-returns-clause-fork_length c = fork_length-act

@@ -1,5 +1,5 @@
 -- The law, from the lemmas on one step more.
-use Rattle.revision_diagram.proofs.Draws.{revisions-Join, live-Join, owner-Join, past-Join, path-Join, fork-Join, fork_length-Join}
+use Rattle.revision_diagram.proofs.Draws.{revisions-Join, live-Join, owner-Join, past-Join, path-Join}
 use Rattle.revision_diagram.proofs.Logs.{log-Join}
 use Rattle.revision_diagram.proofs.laws.join_draws.Goals as goal
 
@@ -17,12 +17,6 @@ returns-clause-past c = past-Join
 
 pub returns-clause-path : goal.returns-clause-path
 returns-clause-path c = path-Join
-
-pub returns-clause-fork : goal.returns-clause-fork
-returns-clause-fork c = fork-Join
-
-pub returns-clause-fork_length : goal.returns-clause-fork_length
-returns-clause-fork_length c = fork_length-Join
 
 pub returns-clause-log : goal.returns-clause-log
 returns-clause-log c = log-Join

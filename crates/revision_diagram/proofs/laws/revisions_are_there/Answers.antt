@@ -1,5 +1,6 @@
 -- The law, from the lemmas on one step more.
 use Rattle.revision_diagram.proofs.Kept.{live-there, past-there, path-there, served, owner-some}
+use Rattle.revision_diagram.proofs.Frames.{stands-next}
 use Rattle.revision_diagram.proofs.laws.revisions_are_there.Goals as goal
 
 pub returns-clause-live : goal.returns-clause-live
@@ -19,3 +20,6 @@ returns-clause-nobodys c = λ steps. (served steps).nobodys
 
 pub returns-clause-owner : goal.returns-clause-owner
 returns-clause-owner c = owner-some
+
+pub returns-clause-next : goal.returns-clause-next
+returns-clause-next c = stands-next
