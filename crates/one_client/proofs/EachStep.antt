@@ -1,8 +1,8 @@
 -- What each step of a run keeps.
-use Rattle.std.proofs.Common.{◌≡◌, ℕ, zero, suc, ◌+◌, ◌<◌, Bool, true, false, cond, List, [], ◌∷◌, ◌++◌, length, drop, refl, sym, ap, subst, ◌∙◌, arith, Option, Some, None, append-nil}
+use Rattle.std.proofs.Common.{◌≡◌, ℕ, zero, suc, ◌+◌, ◌<◌, Bool, true, false, cond, List, [], ◌∷◌, ◌++◌, length, drop, refl, sym, ap, subst, ◌∙◌, arith, Option, Some, None, inl, inr, append-nil}
 use Rattle.std.specs.Prelude.{◌≢◌, ◌&&◌, not, ◌==◌, IsTrue, slice_get}
 use Rattle.std.specs.List.{cons_option, last_or}
-use Rattle.std.proofs.lemmas.Bool.{and_from, or_right, ne_eqb, false≢true}
+use Rattle.std.proofs.lemmas.Bool.{and_from, or_left, or_right, cases_eq, ne_eqb, false≢true}
 use Rattle.std.proofs.Math.Seq.{take-length}
 use Rattle.cloud_base.specs.Answer.{answer}
 use Rattle.cloud_base.specs.declared.schema.Schema.{Schema}
@@ -19,6 +19,7 @@ use Rattle.revision_diagram.specs.Right.{log, updates_at, Right, AnsweredRight}
 use Rattle.revision_diagram.specs.Once.{joins_apart, StandsOnce, Once, AllStandOnce}
 use Rattle.revision_diagram.specs.Story.{is_act_of, is_told, story, event_of, events, is_in_line, has_seen, LineLaw}
 use Rattle.revision_diagram.specs.Meeting.{below_server, is_client, is_at_or_above, is_mark, is_mark_at, has_marked, is_placed, Placed, is_at_mark, AtMarks, is_flush, flushes}
+use Rattle.revision_diagram.specs.Headline.{is_for_node, AllOwned}
 use Rattle.one_client.proofs.Laws.{Laws}
 use Rattle.one_client.proofs.Shape.{put-here, put-else, Sees, Standing, Received, Fresh, Acted, acted_Do, acted_Ask, acted_Say, acted_Mark, standing_acted, received_acted, base_path, Pulled, pulled, Forked, forked, pushed, Served, served}
 
@@ -27,33 +28,36 @@ pub record Good (schema : Schema) (front : List Step) (told : List Event) : Type
   pub lawful : Lawful front
   pub right : AnsweredRight (answer schema) front
   pub once : Once front
-  pub line : LineLaw front 0
+  pub line : (c : ℕ) → LineLaw front c
   pub placed : Placed below_server front
   pub at_marks : AtMarks below_server front
   pub no_flush : flushes front ≡ []
   pub tells : events front 0 ≡ told
+  pub owners : AllOwned below_server 1 front
 
 -- what the laws ask of one step more, which tells these events
 pub record Fits (schema : Schema) (front : List Step) (s : Step) (added : List Event) : Type 0 where
   pub is_next_lawful : IsTrue (is_lawful front s)
   pub is_right : Right (answer schema) front s
   pub apart : IsTrue (joins_apart front s)
-  pub in_line : IsTrue (is_in_line 0 front (acts_on s))
+  pub in_line : (c : ℕ) → IsTrue (is_in_line c front (acts_on s))
   pub is_placed : IsTrue (is_placed below_server front s)
   pub at_mark : IsTrue (is_at_mark below_server front s)
   pub not_flush : is_flush s ≡ false
   pub adds : cond (is_told 0 front s) (cons_option (event_of (Some s)) []) [] ≡ added
+  pub node : IsTrue (is_for_node below_server 1 s)
 
 good_more : (laws : Laws) (schema : Schema) (front : List Step) (s : Step) (told added : List Event) → Good schema front told → Fits schema front s added → Good schema (front ++ s ∷ []) (told ++ added)
 good_more laws schema front s told added g h = record {
   lawful = (laws.lawful_more front s).1 (g.lawful, h.is_next_lawful);
   right = (laws.right_more (answer schema) front s).1 (g.right, h.is_right);
-  once = laws.once_more front s g.once h.is_next_lawful h.apart;
-  line = (laws.line_more front s 0).1 (g.line, h.in_line);
+  once = (laws.once_more front s h.is_next_lawful).1 (g.once, h.apart);
+  line = λ c. (laws.line_more front s c).1 (g.line c, h.in_line c);
   placed = (laws.placed_more below_server front s).1 (g.placed, h.is_placed);
   at_marks = (laws.at_marks_more below_server front s).1 (g.at_marks, h.at_mark);
   no_flush = laws.flushes_more front s ∙ ap (λ (b : Bool). flushes front ++ cond b (length front ∷ []) []) h.not_flush ∙ append-nil (flushes front) ∙ g.no_flush;
   tells = laws.events_more front s 0 ∙ ap (λ (t : List Event). events front 0 ++ t) h.adds ∙ ap (λ (t : List Event). t ++ added) g.tells;
+  owners = (laws.owners_more below_server 1 front s).1 (g.owners, h.node);
 }
 
 good_silent : (laws : Laws) (schema : Schema) (front : List Step) (s : Step) (told : List Event) → Good schema front told → Fits schema front s [] → Good schema (front ++ s ∷ []) told
@@ -79,9 +83,13 @@ seen_from : (front : List Step) (r : ℕ) (last : Option ℕ) → Sees (diagram 
 seen_from front r None h = refl
 seen_from front r (Some i) h = h
 
-keeps_line : (schema : Schema) (front : List Step) (s n : ℕ) (updates : List Update) (told : List Event) → Now schema front s n updates told → IsTrue (is_in_line 0 front (Some s))
-keeps_line schema front s n updates told now =
-    or_right (not (is_of 0 (owner front s))) (has_seen front s (last_place front)) (seen_from front s (last_place front) now.standing.seen)
+keeps_line : (schema : Schema) (front : List Step) (s n : ℕ) (updates : List Update) (told : List Event) → Now schema front s n updates told → (c : ℕ) → IsTrue (is_in_line c front (Some s))
+keeps_line schema front s n updates told now c = elim (cases_eq c 0) [
+  | inl own ↦ or_right (not (is_of c (owner front s))) (has_seen front s (last_or None (story front c)))
+      (subst (λ (x : ℕ). has_seen front s (last_or None (story front x)) ≡ true) (sym own) (seen_from front s (last_place front) now.standing.seen))
+  | inr other ↦ or_left (not (is_of c (owner front s))) (has_seen front s (last_or None (story front c)))
+      (ap (λ (o : Option ℕ). not (is_of c o)) now.standing.mine.owner ∙ ap not (ne_eqb 0 c (λ e. other (sym e))))
+]
 
 told_own : (front : List Step) (s : ℕ) → owner front s ≡ Some 0 → is_of 0 (owner front s) ≡ true
 told_own front s e = ap (is_of 0) e
@@ -97,18 +105,20 @@ fits_Do schema front s n updates told u now = record {
   at_mark = refl;
   not_flush = refl;
   adds = ap (λ (b : Bool). cond b (DoEvent u ∷ []) []) (told_own front s now.standing.mine.owner);
+  node = refl;
 }
 
-fits_Ask : (schema : Schema) (front : List Step) (s n : ℕ) (updates : List Update) (told : List Event) (q : Query) → Now schema front s n updates told → Fits schema front (Ask s q (answer schema updates q)) (AskEvent q (answer schema updates q) ∷ [])
-fits_Ask schema front s n updates told q now = record {
+fits_Ask : (schema : Schema) (front : List Step) (s n : ℕ) (updates : List Update) (told : List Event) (q : Query) (a : Answer) → a ≡ answer schema updates q → Now schema front s n updates told → Fits schema front (Ask s q a) (AskEvent q a ∷ [])
+fits_Ask schema front s n updates told q a right now = record {
   is_next_lawful = now.standing.mine.live;
-  is_right = ap (λ (l : List Update). answer schema l q) (sym now.logged);
+  is_right = right ∙ ap (λ (l : List Update). answer schema l q) (sym now.logged);
   apart = refl;
   in_line = keeps_line schema front s n updates told now;
   is_placed = ap (is_client below_server) now.standing.mine.owner;
   at_mark = refl;
   not_flush = refl;
-  adds = ap (λ (b : Bool). cond b (AskEvent q (answer schema updates q) ∷ []) []) (told_own front s now.standing.mine.owner);
+  adds = ap (λ (b : Bool). cond b (AskEvent q a ∷ []) []) (told_own front s now.standing.mine.owner);
+  node = refl;
 }
 
 fits_Say : (schema : Schema) (front : List Step) (s n : ℕ) (updates : List Update) (told : List Event) (v : Answer) → Now schema front s n updates told → Fits schema front (Say s v) (SayEvent v ∷ [])
@@ -121,6 +131,7 @@ fits_Say schema front s n updates told v now = record {
   at_mark = refl;
   not_flush = refl;
   adds = ap (λ (b : Bool). cond b (SayEvent v ∷ []) []) (told_own front s now.standing.mine.owner);
+  node = refl;
 }
 
 fits_Mark : (schema : Schema) (front : List Step) (s n : ℕ) (updates : List Update) (told : List Event) → Now schema front s n updates told → Fits schema front (Mark s false) (YieldEvent ∷ [])
@@ -133,6 +144,7 @@ fits_Mark schema front s n updates told now = record {
   at_mark = refl;
   not_flush = refl;
   adds = ap (λ (b : Bool). cond b (YieldEvent ∷ []) []) (told_own front s now.standing.mine.owner);
+  node = refl;
 }
 
 -- the diagram after a step on s
@@ -178,11 +190,10 @@ onward_Do laws schema front s n received updates told u h =
     (fits_Do schema front s n updates told u h.now)
     (laws.log_do front s u s ∙ put-here s s (log front s ++ u ∷ []) (log front) refl ∙ ap (λ (l : List Update). l ++ u ∷ []) h.now.logged) h
 
-pub onward_Ask : (laws : Laws) (schema : Schema) (front : List Step) (s n : ℕ) (received : Option ℕ) (updates : List Update) (told : List Event) (q : Query) → Onward schema front s n received updates told → Onward schema (front ++ Ask s q (answer schema updates q) ∷ []) s n received updates (told ++ AskEvent q (answer schema updates q) ∷ [])
-onward_Ask laws schema front s n received updates told q h =
-    let a : Answer = answer schema updates q in
+pub onward_Ask : (laws : Laws) (schema : Schema) (front : List Step) (s n : ℕ) (received : Option ℕ) (updates : List Update) (told : List Event) (q : Query) (a : Answer) → a ≡ answer schema updates q → Onward schema front s n received updates told → Onward schema (front ++ Ask s q a ∷ []) s n received updates (told ++ AskEvent q a ∷ [])
+onward_Ask laws schema front s n received updates told q a right h =
     onward_acted laws schema front (Ask s q a) s n received updates updates told (AskEvent q a ∷ []) refl (acted_Ask (diagram front) s q a)
-    (fits_Ask schema front s n updates told q h.now) (laws.log_ask front s q a s ∙ h.now.logged) h
+    (fits_Ask schema front s n updates told q a right h.now) (laws.log_ask front s q a s ∙ h.now.logged) h
 
 pub onward_Say : (laws : Laws) (schema : Schema) (front : List Step) (s n : ℕ) (received : Option ℕ) (updates : List Update) (told : List Event) (v : Answer) → Onward schema front s n received updates told → Onward schema (front ++ Say s v ∷ []) s n received updates (told ++ SayEvent v ∷ [])
 onward_Say laws schema front s n received updates told v h =
@@ -254,11 +265,12 @@ fits_pull laws schema front s r n updates told now mark k =
       is_next_lawful = lawful_join front r s k.mine.live now.standing.mine.live (λ e. omega arith) k.other k.has;
       is_right = tt;
       apart = laws.apart front r s (stands_once laws schema front s n updates told now) (k.path ∙ base_path (diagram front) s (last_place front) now.standing);
-      in_line = refl;
+      in_line = λ c. refl;
       is_placed = own_placed (owner front r) (owner front s) k.mine.owner now.standing.mine.owner;
       at_mark = own_marked front (owner front s) now.standing.mine.owner mark;
       not_flush = refl;
       adds = refl;
+      node = refl;
     }
 
 -- the same as Now, at a mark
@@ -288,11 +300,12 @@ fits_fork schema front s n updates told h = record {
   is_next_lawful = h.now.standing.mine.live;
   is_right = tt;
   apart = refl;
-  in_line = refl;
+  in_line = λ c. refl;
   is_placed = own_placed (owner front s) (Some 0) h.now.standing.mine.owner refl;
   at_mark = own_marked front (owner front s) h.now.standing.mine.owner h.mark;
   not_flush = refl;
   adds = refl;
+  node = refl;
 }
 
 -- and n is just forked
@@ -328,11 +341,12 @@ fits_push laws schema front s n updates told h =
       is_next_lawful = lawful_join front 0 s h.now.standing.server h.now.standing.mine.live (λ e. omega arith) (λ e. omega arith) h.now.standing.forked;
       is_right = tt;
       apart = laws.apart front 0 s (stands_once laws schema front s n updates told h.now) (base_path (diagram front) s (last_place front) h.now.standing);
-      in_line = refl;
+      in_line = λ c. refl;
       is_placed = up_placed (owner front 0) (owner front s) (laws.nobodys front) h.now.standing.mine.owner;
       at_mark = own_marked front (owner front s) h.now.standing.mine.owner h.mark;
       not_flush = refl;
       adds = refl;
+      node = refl;
     }
 
 pub push_step : (laws : Laws) (schema : Schema) (front : List Step) (s n : ℕ) (updates : List Update) (told : List Event) → ForkedNow schema front s n updates told → Now schema (front ++ Join 0 s ∷ []) n (n + 1) updates told
@@ -356,11 +370,12 @@ fits_serve laws schema front s n updates told now = record {
   is_next_lawful = now.standing.server;
   is_right = tt;
   apart = refl;
-  in_line = refl;
+  in_line = λ c. refl;
   is_placed = up_placed (owner front 0) (Some 0) (laws.nobodys front) refl;
   at_mark = ap (has_marked below_server front) (laws.nobodys front);
   not_flush = refl;
   adds = refl;
+  node = refl;
 }
 
 pub serve_step : (laws : Laws) (schema : Schema) (front : List Step) (s n : ℕ) (updates : List Update) (told : List Event) → Now schema front s n updates told → Onward schema (front ++ Fork 0 0 ∷ []) s (n + 1) (Some n) updates told

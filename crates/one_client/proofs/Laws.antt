@@ -12,6 +12,7 @@ use Rattle.revision_diagram.specs.Lawful.{is_lawful, Lawful}
 use Rattle.revision_diagram.specs.Right.{log, Right, AnsweredRight}
 use Rattle.revision_diagram.specs.Once.{joins_apart, StandsOnce, AllStandOnce, Once}
 use Rattle.revision_diagram.specs.Story.{is_told, story, event_of, events, is_in_line, LineLaw}
+use Rattle.revision_diagram.specs.Headline.{is_for_node, AllOwned}
 use Rattle.revision_diagram.specs.Meeting.{Tree, is_placed, Placed, is_at_mark, AtMarks, is_flush, flushes, FlushLaw}
 
 pub record Laws : Type 0 where
@@ -26,7 +27,7 @@ pub record Laws : Type 0 where
   pub log_mark : (steps : List Step) (r : ℕ) (flush : Bool) (x : ℕ) → log (steps ++ Mark r flush ∷ []) x ≡ log steps x
   pub lawful_more : (steps : List Step) (s : Step) → Lawful (steps ++ s ∷ []) ↔ (Lawful steps × IsTrue (is_lawful steps s))
   pub right_more : (answers : List Update → Query → Answer) (steps : List Step) (s : Step) → AnsweredRight answers (steps ++ s ∷ []) ↔ (AnsweredRight answers steps × Right answers steps s)
-  pub once_more : (steps : List Step) (s : Step) → Once steps → IsTrue (is_lawful steps s) → IsTrue (joins_apart steps s) → Once (steps ++ s ∷ [])
+  pub once_more : (steps : List Step) (s : Step) → IsTrue (is_lawful steps s) → Once (steps ++ s ∷ []) ↔ (Once steps × IsTrue (joins_apart steps s))
   pub once_at : (steps : List Step) → Once steps ↔ ((n : ℕ) → AllStandOnce (take n steps))
   pub apart : (steps : List Step) (r s : ℕ) → StandsOnce steps s → path steps r ≡ take (fork_length steps s) (path steps s) → IsTrue (joins_apart steps (Join r s))
   pub story_more : (steps : List Step) (s : Step) (c : ℕ) → story (steps ++ s ∷ []) c ≡ story steps c ++ cond (is_told c steps s) (length steps ∷ []) []
@@ -37,3 +38,4 @@ pub record Laws : Type 0 where
   pub at_marks_more : (tree : Tree) (steps : List Step) (s : Step) → AtMarks tree (steps ++ s ∷ []) ↔ (AtMarks tree steps × IsTrue (is_at_mark tree steps s))
   pub flushes_more : (steps : List Step) (s : Step) → flushes (steps ++ s ∷ []) ≡ flushes steps ++ cond (is_flush s) (length steps ∷ []) []
   pub no_flushes : (tree : Tree) (steps : List Step) → flushes steps ≡ [] → FlushLaw tree steps
+  pub owners_more : (tree : Tree) (clients : ℕ) (steps : List Step) (s : Step) → AllOwned tree clients (steps ++ s ∷ []) ↔ (AllOwned tree clients steps × IsTrue (is_for_node tree clients s))

@@ -1,6 +1,6 @@
 -- A run's report is legible: its names are told apart, and its steps are of the schema's shape.
 use Rattle.std.proofs.Common.{◌≡◌, ◌≢◌, ◌∙◌, refl, sym, ap, subst, arith, ℕ, zero, suc, ◌+◌, ◌*◌, ◌-◌, neg_ℤ, ◌<◌, ◌≤◌, ◌^◌, Bool, true, false, cond, List, [], ◌∷◌, ◌++◌, length, get_or, pos, FitsSigned, Option, Some, None}
-use Rattle.std.specs.Prelude.{All, IfSome, MatchOption, slice_get, map, unwrap_or, if◌then◌else◌, option_map}
+use Rattle.std.specs.Prelude.{All, IfSome, MatchOption, ⊤, slice_get, map, unwrap_or, if◌then◌else◌, option_map}
 use Rattle.std.specs.Option.{option_map_or}
 use Rattle.std.proofs.lemmas.Bool.{false≢true}
 use Rattle.std.proofs.lemmas.Slice.Eq.{bytes_eq-Decides}
@@ -11,7 +11,7 @@ use Rattle.std.proofs.lemmas.List.Elements.{All-from_recursion, All-nil, All-con
 use Rattle.cloud_base.specs.Values.{IsName}
 use Rattle.cloud_base.specs.Log.{of_cell}
 use Rattle.cloud_base.specs.PlainCell.{plain_int, plain_value}
-use Rattle.cloud_base.specs.Shaped.{AreKeys, IsCell, IsChange, IsValue, IsShaped, IsShapedAnswer, cell_type}
+use Rattle.cloud_base.specs.Shaped.{AreKeys, IsCell, IsChange, IsValue, IsShaped, IsShapedQuery, IsShapedAnswer, cell_type}
 use Rattle.cloud_base.specs.Answer.{answer}
 use Rattle.cloud_base.specs.declared.end.End.{End}
 use Rattle.cloud_base.specs.declared.schema.CellType.TheVariants.{Int as IntCell}
@@ -19,6 +19,8 @@ use Rattle.cloud_base.specs.declared.schema.Property.{Property}
 use Rattle.cloud_base.specs.declared.schema.Schema.{Schema}
 use Rattle.cloud_base.specs.declared.update.Answer.TheVariants.{Int}
 use Rattle.cloud_base.specs.declared.update.CellChange.{CellChange}
+use Rattle.cloud_base.specs.declared.update.Event.{Event}
+use Rattle.cloud_base.specs.declared.update.Event.TheVariants as event
 use Rattle.cloud_base.specs.declared.update.Update.{Update}
 use Rattle.cloud_parse.specs.declared.tree.Act.{Act}
 use Rattle.cloud_parse.specs.declared.tree.Act.TheVariants.{Change, Print, Yield}
@@ -30,8 +32,8 @@ use Rattle.revision_diagram.specs.declared.step.Step.{Step}
 use Rattle.revision_diagram.specs.declared.step.Step.TheVariants.{Fork}
 use Rattle.step_text.specs.Cells.{property_of}
 use Rattle.step_text.specs.Legible.{Legible, IsProperty, IsSaid, IsStep, IsEnd, Told}
-use Rattle.one_client.specs.Program.{schema_of, global_property, budget, cost, begun, end_from, end_of, query_of, change_of, update_of}
-use Rattle.one_client.specs.Steps.{Run, first_run, steps_from, steps_of, goes_on, pull, yield_steps, after_yield, after_update}
+use Rattle.one_client.specs.Program.{schema_of, global_property, budget, cost, begun, end_from, end_of, query_of, change_of, update_of, events_from, events_of}
+use Rattle.one_client.specs.Steps.{Run, first_run, steps_from, steps_of, goes_on, pull, yield_steps, after_yield}
 
 -- ---- names
 same_bytes : (a : List ℕ) → bytes_eq a a ≡ true
@@ -86,7 +88,7 @@ legible f h = record {
 }
 
 -- ---- steps
--- the revisions that a run names, and those that n acts may make, are numbers of 32 bits
+-- the revisions that a run names, and those that n events may make, are numbers of 32 bits
 record Room (run : Run) (n : ℕ) : Type 0 where
   standing : run.standing + 2 * n < 2 ^ 32
   received : IfSome run.received (λ r. r + 2 * n < 2 ^ 32)
@@ -141,58 +143,80 @@ answer_is : (f : Form) (log : List Update) (g : ℕ) → g < length f.globals �
 unfolding answer plain_value
 answer_is f log g lt = ap (λ type. plain_value type (of_cell g [] log)) (type_is f g lt)
 
-module _ (fits : (changes : List CellChange) → FitsSigned w64 (plain_int changes)) (f : Form) (h : IsForm f) where
-  abbrev Fit : List Step → Type 0
-  Fit = AllByRecursion (IsStep (schema_of f) (f.client ∷ []))
+-- the step of the event has the schema's shape
+abbrev EventFits : Schema → Event → Type 0
+EventFits schema (event.Do update) = IsShaped schema update
+EventFits schema (event.Ask query answer) = IsShapedQuery schema query × IsShapedAnswer schema query answer
+EventFits schema (event.Say answer) = IsSaid answer
+EventFits schema event.Yield = ⊤
+EventFits schema event.Flush = ⊤
 
+fewer : (received : Option ℕ) (n : ℕ) → IfSome received (λ r. r + 2 * suc n < 2 ^ 32) → IfSome received (λ r. r + 2 * n < 2 ^ 32)
+fewer None n room = tt
+fewer (Some r) n room = omega arith
+
+low_received : (received : Option ℕ) (n : ℕ) → IfSome received (λ r. r + 2 * n < 2 ^ 32) → IfSome received (λ r. r < 2 ^ 32)
+low_received None n room = tt
+low_received (Some r) n room = omega arith
+
+pulled_low : (standing : ℕ) (received : Option ℕ) → standing < 2 ^ 32 → IfSome received (λ r. r < 2 ^ 32) → unwrap_or received standing < 2 ^ 32
+pulled_low standing None low lower = low
+pulled_low standing (Some r) low lower = lower
+
+room_after : (run : Run) (n : ℕ) (further : Bool) → Room run (suc n) → Room (after_yield run further) n
+room_after run n true room = record { standing = omega (arith, room.next); received = omega (arith, room.next); next = omega (arith, room.next) }
+room_after run n false room = record { standing = omega (arith, room.next); received = tt; next = omega (arith, room.next) }
+
+room_left : (run : Run) (n : ℕ) → Room run (suc n) → Room run n
+room_left run n room = record { standing = omega (arith, room.standing); received = fewer run.received n room.received; next = omega (arith, room.next) }
+
+-- the steps of events that fit, where one client has a name
+module _ (schema : Schema) (names : List (List ℕ)) (some : 0 < length names) where
+  abbrev Fit : List Step → Type 0
+  Fit = AllByRecursion (IsStep schema names)
+
+  pull_fits : (standing : ℕ) (received : Option ℕ) → standing < 2 ^ 32 → IfSome received (λ r. r < 2 ^ 32) → Fit (pull standing received)
+  pull_fits standing None low lower = tt
+  pull_fits standing (Some r) low lower = ((lower, low), tt)
+
+  serve_fits : (further : Bool) → Fit (if further then Fork 0 0 ∷ [] else [])
+  serve_fits true = ((omega arith, some), tt)
+  serve_fits false = tt
+
+  yield_fits : (run : Run) (further : Bool) → run.standing < 2 ^ 32 → IfSome run.received (λ r. r < 2 ^ 32) → Fit (yield_steps run further)
+  yield_fits run further low lower =
+      let low_pulled = pulled_low run.standing run.received low lower in
+      (low, both_parts (IsStep schema names) (pull run.standing run.received) _ (pull_fits run.standing run.received low lower) ((low_pulled, some), ((omega arith, low_pulled), serve_fits further)))
+
+  steps_fit : (run : Run) (events : List Event) → Room run (length events) → AllByRecursion (EventFits schema) events → Fit (steps_from run events)
+  steps_fit run [] room fit = tt
+  steps_fit run (event.Do update ∷ events) room fit = ((omega (arith, room.standing), fit.0), steps_fit run events (room_left run (length events) room) fit.1)
+  steps_fit run (event.Ask query answer ∷ events) room fit = ((omega (arith, room.standing), fit.0.0, fit.0.1), steps_fit run events (room_left run (length events) room) fit.1)
+  steps_fit run (event.Say answer ∷ events) room fit = ((omega (arith, room.standing), fit.0), steps_fit run events (room_left run (length events) room) fit.1)
+  steps_fit run (event.Yield ∷ events) room fit =
+      both_parts (IsStep schema names) (yield_steps run (goes_on events)) _ (yield_fits run (goes_on events) (omega (arith, room.standing)) (low_received run.received (suc (length events)) room.received))
+      (steps_fit (after_yield run (goes_on events)) events (room_after run (length events) (goes_on events) room) fit.1)
+  steps_fit run (event.Flush ∷ events) room fit = (omega (arith, room.standing), steps_fit run events (room_left run (length events) room) fit.1)
+
+-- ---- events
+module _ (fits : (changes : List CellChange) → FitsSigned w64 (plain_int changes)) (f : Form) (h : IsForm f) where
   asked : (log : List Update) (g : ℕ) → g < length f.globals → IsShapedAnswer (schema_of f) (query_of g) (answer (schema_of f) log (query_of g))
   asked log g lt = subst (λ type. IsValue type (answer (schema_of f) log (query_of g))) (sym (type_is f g lt)) (subst (IsValue IntCell) (sym (answer_is f log g lt)) (fits (of_cell g [] log)))
 
   said : (log : List Update) (g : ℕ) → g < length f.globals → IsSaid (answer (schema_of f) log (query_of g))
   said log g lt = subst IsSaid (sym (answer_is f log g lt)) (fits (of_cell g [] log))
 
-  pull_fits : (standing : ℕ) (received : Option ℕ) → standing < 2 ^ 32 → IfSome received (λ r. r < 2 ^ 32) → Fit (pull standing received)
-  pull_fits standing None low lower = tt
-  pull_fits standing (Some r) low lower = ((lower, low), tt)
+  events_fit : (log : List Update) (acts : List Act) → AllByRecursion (ActFits (length f.globals)) acts → AllByRecursion (EventFits (schema_of f)) (events_from (schema_of f) log acts)
+  events_fit log [] fit = tt
+  events_fit log (Change g operation amount ∷ acts) fit = (update_is f h g operation amount fit.0.0 fit.0.1, events_fit (log ++ update_of g operation amount ∷ []) acts fit.1)
+  events_fit log (Print g ∷ acts) fit = ((cell_is f h g fit.0, asked log g fit.0), (said log g fit.0, events_fit log acts fit.1))
+  events_fit log (Yield ∷ acts) fit = (tt, events_fit log acts fit.1)
 
-  pulled_low : (standing : ℕ) (received : Option ℕ) → standing < 2 ^ 32 → IfSome received (λ r. r < 2 ^ 32) → unwrap_or received standing < 2 ^ 32
-  pulled_low standing None low lower = low
-  pulled_low standing (Some r) low lower = lower
-
-  serve_fits : (further : Bool) → Fit (if further then Fork 0 0 ∷ [] else [])
-  serve_fits true = ((omega arith, omega arith), tt)
-  serve_fits false = tt
-
-  yield_fits : (run : Run) (further : Bool) → run.standing < 2 ^ 32 → IfSome run.received (λ r. r < 2 ^ 32) → Fit (yield_steps run further)
-  yield_fits run further low lower =
-      let low_pulled = pulled_low run.standing run.received low lower in
-      (low, both_parts (IsStep (schema_of f) (f.client ∷ [])) (pull run.standing run.received) _ (pull_fits run.standing run.received low lower) ((low_pulled, omega arith), ((omega arith, low_pulled), serve_fits further)))
-
-  fewer : (received : Option ℕ) (n : ℕ) → IfSome received (λ r. r + 2 * suc n < 2 ^ 32) → IfSome received (λ r. r + 2 * n < 2 ^ 32)
-  fewer None n room = tt
-  fewer (Some r) n room = omega arith
-
-  low_received : (received : Option ℕ) (n : ℕ) → IfSome received (λ r. r + 2 * n < 2 ^ 32) → IfSome received (λ r. r < 2 ^ 32)
-  low_received None n room = tt
-  low_received (Some r) n room = omega arith
-
-  room_after : (run : Run) (n : ℕ) (further : Bool) → Room run (suc n) → Room (after_yield run further) n
-  room_after run n true room = record { standing = omega (arith, room.next); received = omega (arith, room.next); next = omega (arith, room.next) }
-  room_after run n false room = record { standing = omega (arith, room.next); received = tt; next = omega (arith, room.next) }
-
-  room_left : (run : Run) (n : ℕ) → Room run (suc n) → Room run n
-  room_left run n room = record { standing = omega (arith, room.standing); received = fewer run.received n room.received; next = omega (arith, room.next) }
-
-  steps_fit : (run : Run) (acts : List Act) → Room run (length acts) → AllByRecursion (ActFits (length f.globals)) acts → Fit (steps_from (schema_of f) run acts)
-  steps_fit run [] room fit = tt
-  steps_fit run (Change g operation amount ∷ acts) room fit =
-      let left = room_left run (length acts) room in
-      ((omega (arith, room.standing), update_is f h g operation amount fit.0.0 fit.0.1), steps_fit (after_update run (update_of g operation amount)) acts (record { standing = left.standing; received = left.received; next = left.next }) fit.1)
-  steps_fit run (Print g ∷ acts) room fit =
-      ((omega (arith, room.standing), cell_is f h g fit.0, asked run.log g fit.0), ((omega (arith, room.standing), said run.log g fit.0), steps_fit run acts (room_left run (length acts) room) fit.1))
-  steps_fit run (Yield ∷ acts) room fit =
-      both_parts (IsStep (schema_of f) (f.client ∷ [])) (yield_steps run (goes_on acts)) _ (yield_fits run (goes_on acts) (omega (arith, room.standing)) (low_received run.received (suc (length acts)) room.received))
-      (steps_fit (after_yield run (goes_on acts)) acts (room_after run (length acts) (goes_on acts) room) fit.1)
+events_few : (schema : Schema) (log : List Update) (acts : List Act) → length (events_from schema log acts) ≤ 2 * length acts
+events_few schema log [] = omega arith
+events_few schema log (Change g operation amount ∷ acts) = omega (arith, events_few schema (log ++ update_of g operation amount ∷ []) acts)
+events_few schema log (Print g ∷ acts) = omega (arith, events_few schema log acts)
+events_few schema log (Yield ∷ acts) = omega (arith, events_few schema log acts)
 
 end_fits : (turns : ℕ) (acts : List Act) → IsEnd (end_from turns acts)
 end_fits turns [] = tt
@@ -201,9 +225,12 @@ end_fits (suc turns) (act ∷ acts) = end_fits (suc turns - cost act) acts
 
 pub run_tells : ((changes : List CellChange) → FitsSigned w64 (plain_int changes))
     → ((schema : Schema) (names : List (List ℕ)) (steps : List Step) (ends : List End) → Legible schema names → All (IsStep schema names) steps → All IsEnd ends → Told schema names steps ends)
-    → (f : Form) → IsForm f → Told (schema_of f) (f.client ∷ []) (steps_of f) (end_of f ∷ [])
+    → (f : Form) → IsForm f → Told (schema_of f) (f.client ∷ []) (steps_of (events_of f)) (end_of f ∷ [])
 run_tells fits tells f h =
-    let few = begun_few budget f.acts in
-    let room : Room first_run (length (begun budget f.acts)) = record { standing = omega (arith, few); received = tt; next = omega (arith, few) } in
-    let steps = All-from_recursion (IsStep (schema_of f) (f.client ∷ [])) (steps_of f) ((omega arith, omega arith), steps_fit fits f h first_run (begun budget f.acts) room (begun_fit (length f.globals) budget f.acts h.acts)) in
-    tells (schema_of f) (f.client ∷ []) (steps_of f) (end_of f ∷ []) (legible f h) steps (All-cons IsEnd (end_of f) [] (end_fits budget f.acts) (All-nil IsEnd))
+    let acts : List Act = begun budget f.acts in
+    let few : length (begun budget f.acts) ≤ budget = begun_few budget f.acts in
+    let events : length (events_of f) ≤ 2 * length (begun budget f.acts) = events_few (schema_of f) [] acts in
+    let room : Room first_run (length (events_of f)) = record { standing = omega arith; received = tt; next = omega arith } in
+    let fit = events_fit fits f h [] acts (begun_fit (length f.globals) budget f.acts h.acts) in
+    let steps = All-from_recursion (IsStep (schema_of f) (f.client ∷ [])) (steps_of (events_of f)) ((omega arith, omega arith), steps_fit (schema_of f) (f.client ∷ []) (omega arith) first_run (events_of f) room fit) in
+    tells (schema_of f) (f.client ∷ []) (steps_of (events_of f)) (end_of f ∷ []) (legible f h) steps (All-cons IsEnd (end_of f) [] (end_fits budget f.acts) (All-nil IsEnd))

@@ -1,7 +1,7 @@
 -- The acts that begin do what their trace says for the answers that they get.
 use Rattle.std.proofs.Common.{◌≡◌, ℕ, zero, suc, ◌-◌, List, [], ◌∷◌, ◌++◌, refl, sym, ap, subst, arith}
-use Rattle.std.specs.List.{filter_map}
 use Rattle.cloud_base.specs.Answer.{answer}
+use Rattle.cloud_base.specs.Events.{Outcome, ended, answers_in}
 use Rattle.cloud_base.specs.declared.schema.Schema.{Schema}
 use Rattle.cloud_base.specs.declared.update.Answer.{Answer}
 use Rattle.cloud_base.specs.declared.update.Event.{Event}
@@ -9,19 +9,11 @@ use Rattle.cloud_base.specs.declared.update.Event.TheVariants.{Do, Ask, Say, Yie
 use Rattle.cloud_base.specs.declared.update.Update.{Update}
 use Rattle.cloud_parse.specs.declared.tree.Act.{Act}
 use Rattle.cloud_parse.specs.declared.tree.Act.TheVariants.{Change, Print, Yield}
-use Rattle.revision_diagram.specs.Story.{answer_of}
-use Rattle.one_client.specs.Program.{Outcome, ended, update_of, query_of, then_trace, trace_from, begun, end_from}
-
--- the events of the acts, each query answered as the updates so far answer it
-abbrev pub told_from : Schema → List Update → List Act → List Event
-told_from schema log [] = []
-told_from schema log (Change global operation amount ∷ acts) = Do (update_of global operation amount) ∷ told_from schema (log ++ update_of global operation amount ∷ []) acts
-told_from schema log (Print global ∷ acts) = Ask (query_of global) (answer schema log (query_of global)) ∷ Say (answer schema log (query_of global)) ∷ told_from schema log acts
-told_from schema log (Yield ∷ acts) = YieldEvent ∷ told_from schema log acts
+use Rattle.one_client.specs.Program.{update_of, query_of, then_trace, trace_from, begun, end_from, events_from}
 
 -- the events are those of the trace, where the acts that begin are those of n turns
 abbrev TellsTrace : Schema → List Update → ℕ → ℕ → List Act → Type 0
-TellsTrace schema log turns n acts = trace_from turns acts (filter_map answer_of (told_from schema log (begun n acts))) ≡ (told_from schema log (begun n acts), ended (end_from n acts))
+TellsTrace schema log turns n acts = trace_from turns acts (answers_in (events_from schema log (begun n acts))) ≡ (events_from schema log (begun n acts), ended (end_from n acts))
 
 turns_left : (schema : Schema) (log : List Update) (turns n : ℕ) (acts : List Act) → n ≡ turns → TellsTrace schema log turns turns acts → TellsTrace schema log turns n acts
 turns_left schema log turns n acts e h = subst (λ (m : ℕ). TellsTrace schema log turns m acts) (sym e) h

@@ -1,3 +1,2 @@
-pub mod Headline
-pub mod Program
 pub mod Steps
+pub mod Program

@@ -1,23 +1,36 @@
-// What a program of one client means: its steps, its report, and that they are a lawful diagram.
+// What a run of one client means: its steps, its report, and that they are a lawful diagram.
+//
+// It serves until clients are many.
 #![tactic(auto)]
 
-ghost use Rattle.std.specs.Prelude.{[], ◌∷◌};
+ghost use Rattle.std.specs.Prelude.{◌≡◌, List, [], ◌∷◌};
+ghost use Rattle.cloud_base.specs.Events.{Outcome, ended, answers_in};
+ghost use Rattle.cloud_base.specs.declared.end.End.{End};
+ghost use Rattle.cloud_base.specs.declared.schema.Schema.{Schema};
+ghost use Rattle.cloud_base.specs.declared.update.Answer.{Answer};
+ghost use Rattle.cloud_base.specs.declared.update.Event.{Event};
 ghost use Rattle.cloud_parse.specs.Form.{Form, IsForm};
+ghost use Rattle.revision_diagram.specs.Headline.{Headline};
+ghost use Rattle.revision_diagram.specs.Meeting.{below_server};
 ghost use Rattle.step_text.specs.Legible.{Told};
-ghost use Rattle.one_client.specs.Headline.{Headline};
-ghost use Rattle.one_client.specs.Program.{schema_of, trace, end_of};
-ghost use Rattle.one_client.specs.Steps.{steps_of};
+ghost use Rattle.one_client.specs.Program.{schema_of, trace, events_of, end_of};
+ghost use Rattle.one_client.specs.Steps.{steps_of, RightEvents, HasNoFlush};
 
 use cloud_base::plain_steps;
-use step_text::reports_tell_steps;
 use revision_diagram::{
     ask_draws, do_draws, fork_draws, join_draws, lawful_step, line_step, mark_draws, meeting_step,
-    once_step, revisions_are_there, right_step, say_draws, step_draws, story_step,
+    once_step, owners_step, paths_apart, revisions_are_there, right_step, say_draws, step_draws,
+    story_step,
 };
+use step_text::reports_tell_steps;
 
-/// The steps of a run of one client are a lawful diagram in which it runs its program.
-pub fn runs_are_lawful()
-    ensures { (f : Form) → Headline (schema_of f) (trace f) (end_of f) (steps_of f) }
+/// The steps of the events of one client, which it runs and which are answered right, are a lawful
+/// diagram in which it runs its program.
+pub fn events_are_lawful()
+    ensures { (schema : Schema) (events : List Event) (trace : List Answer → List Event × Outcome)
+        (end : End) → HasNoFlush events → RightEvents schema [] events
+        → trace (answers_in events) ≡ (events, ended end)
+        → Headline schema below_server (trace ∷ []) (end ∷ []) (steps_of events) }
 {
     step_draws();
     fork_draws();
@@ -30,14 +43,25 @@ pub fn runs_are_lawful()
     lawful_step();
     right_step();
     once_step();
+    paths_apart();
     story_step();
     line_step();
     meeting_step();
+    owners_step();
+}
+
+/// The steps of a program's run are a lawful diagram in which it runs the program.
+pub fn runs_are_lawful()
+    ensures { (f : Form) → Headline (schema_of f) below_server (trace f ∷ []) (end_of f ∷ [])
+        (steps_of (events_of f)) }
+{
+    events_are_lawful();
 }
 
 /// The text of a run's report tells the steps and the end of the run.
 pub fn reports_tell_runs()
-    ensures { (f : Form) → IsForm f → Told (schema_of f) (f.client ∷ []) (steps_of f) (end_of f ∷ []) }
+    ensures { (f : Form) → IsForm f
+        → Told (schema_of f) (f.client ∷ []) (steps_of (events_of f)) (end_of f ∷ []) }
 {
     plain_steps();
     reports_tell_steps();
