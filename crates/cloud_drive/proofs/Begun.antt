@@ -1,16 +1,20 @@
 -- The acts that begin, and the turns of a run of acts.
-use Rattle.std.proofs.Common.{◌≡◌, ℕ, zero, suc, ◌+◌, ◌-◌, ◌≤◌, Bool, true, false, ◌||◌, cond, nat_lt, List, [], ◌∷◌, ◌++◌, length, refl, ap, sym, ◌∙◌, arith, append_assoc}
+use Rattle.std.proofs.Common.{◌≡◌, ℕ, zero, suc, ◌+◌, ◌-◌, ◌≤◌, Bool, true, false, cond, nat_lt, List, [], ◌∷◌, ◌++◌, length, refl, ap, sym, ◌∙◌, arith, append_assoc}
 use Rattle.std.specs.List.{AllByRecursion, count_by}
 use Rattle.std.proofs.lemmas.Bool.Decides.{nat_tests}
 use Rattle.cloud_base.specs.declared.end.End.TheVariants.{Done, Spent}
 use Rattle.cloud_base.specs.declared.schema.Schema.{Schema}
+use Rattle.cloud_base.specs.declared.update.Event.{Event}
+use Rattle.cloud_base.specs.declared.update.Update.{Update}
 use Rattle.cloud_parse.specs.declared.tree.Act.{Act}
 use Rattle.cloud_parse.specs.declared.tree.Act.TheVariants.{Change, Print, Yield}
-use Rattle.one_client.specs.Program.{cost, begun, end_from}
-use Rattle.one_client.specs.Steps.{Run, is_yield, goes_on, steps_from}
+use Rattle.cloud_parse.specs.Form.{Form}
+use Rattle.one_client.specs.Program.{schema_of, update_of, cost, begun, end_from, events_from}
+use Rattle.one_client.specs.Steps.{Run, goes_on, steps_from, steps_of}
 use Rattle.revision_diagram.specs.declared.step.Step.{Step}
 use Rattle.std.proofs.lemmas.List.Recursion.{is_count_by}
-use Rattle.cloud_drive.specs.Play.{yields_in, act_steps, after_act}
+use Rattle.cloud_drive.specs.declared.player.Player.{Player}
+use Rattle.cloud_drive.specs.Play.{is_yield_act, yields_in, act_steps, after_act, log_after, Acts, Continues}
 
 pub begun_out : (turns : ℕ) (acts : List Act) → turns ≡ 0 → begun turns acts ≡ []
 begun_out turns [] h = refl
@@ -43,41 +47,55 @@ spent_if turns [] h = absurd (h refl)
 spent_if zero (act ∷ acts) h = refl
 spent_if (suc turns) (act ∷ acts) h = spent_if (suc turns - cost act) acts (λ e. h (omega arith))
 
--- the steps of a run are those of its first act and then those of the others
-pub first_act : (schema : Schema) (run : Run) (act : Act) (acts : List Act)
-    → steps_from schema run (act ∷ acts) ≡ act_steps schema run act (goes_on acts) ++ steps_from schema (after_act run act (goes_on acts)) acts
-first_act schema run (Change global operation amount) acts = refl
-first_act schema run (Print global) acts = refl
-first_act schema run Yield acts = refl
+some_left : (n : ℕ) → true ≡ nat_lt 0 (1 + n)
+some_left n = grind (arith, nat_tests)
 
-on_by : (act : Act) (b : Bool) (n : ℕ) (rest : Bool) → is_yield act ≡ b → rest ≡ nat_lt 0 n → (b || rest) ≡ nat_lt 0 (cond b (1 + n) n)
-on_by act true n rest e h = grind (arith, nat_tests)
-on_by act false n rest e h = h
+-- the steps of a run are those of its first act and then those of the others
+pub first_act : (schema : Schema) (run : Run) (log : List Update) (act : Act) (acts : List Act)
+    → steps_from run (events_from schema log (act ∷ acts)) ≡ act_steps schema run log act (goes_on (events_from schema (log_after log act) acts)) ++ steps_from (after_act run act (goes_on (events_from schema (log_after log act) acts))) (events_from schema (log_after log act) acts)
+first_act schema run log (Change global operation amount) acts = refl
+first_act schema run log (Print global) acts = refl
+first_act schema run log Yield acts = refl
 
 -- a further yield comes where one is left
-pub goes_on_is : (acts : List Act) → goes_on acts ≡ nat_lt 0 (yields_in acts)
-goes_on_is [] = refl
-goes_on_is (act ∷ acts) = on_by act (is_yield act) (yields_in acts) (goes_on acts) refl (goes_on_is acts)
+pub goes_on_is : (schema : Schema) (log : List Update) (acts : List Act) → goes_on (events_from schema log acts) ≡ nat_lt 0 (yields_in acts)
+goes_on_is schema log [] = refl
+goes_on_is schema log (Change global operation amount ∷ acts) = goes_on_is schema (log ++ update_of global operation amount ∷ []) acts
+goes_on_is schema log (Print global ∷ acts) = goes_on_is schema log acts
+goes_on_is schema log (Yield ∷ acts) = some_left (yields_in acts)
 
-pub counted : (acts : List Act) → yields_in acts ≡ count_by is_yield acts
-counted acts = is_count_by yields_in is_yield refl (λ _ _. refl) acts
+pub counted : (acts : List Act) → yields_in acts ≡ count_by is_yield_act acts
+counted acts = is_count_by yields_in is_yield_act refl (λ _ _. refl) acts
 
 left_by : (b : Bool) (n : ℕ) → cond b (cond b (1 + n) n - 1) (cond b (1 + n) n) ≡ n
 left_by true n = omega arith
 left_by false n = refl
 
 -- the yields that are left after an act
-pub yields_left : (act : Act) (before rest : List Act) (yields left : ℕ) → before ≡ act ∷ rest → yields ≡ yields_in before → left ≡ cond (is_yield act) (yields - 1) yields → left ≡ yields_in rest
+pub yields_left : (act : Act) (before rest : List Act) (yields left : ℕ) → before ≡ act ∷ rest → yields ≡ yields_in before → left ≡ cond (is_yield_act act) (yields - 1) yields → left ≡ yields_in rest
 yields_left act before rest yields left e y l =
-    l ∙ ap (λ n. cond (is_yield act) (n - 1) n) (y ∙ ap yields_in e) ∙ left_by (is_yield act) (yields_in rest)
+    l ∙ ap (λ n. cond (is_yield_act act) (n - 1) n) (y ∙ ap yields_in e) ∙ left_by (is_yield_act act) (yields_in rest)
 
 -- the steps after one more act
-pub next_act : (schema : Schema) (run : Run) (act : Act) (before rest : List Act) (steps now all : List Step) (further : Bool)
-    → before ≡ act ∷ rest → further ≡ goes_on rest → now ≡ steps ++ act_steps schema run act further
-    → steps ++ steps_from schema run before ≡ all → now ++ steps_from schema (after_act run act further) rest ≡ all
-next_act schema run act before rest steps now all further e f n h =
-    ap (λ s. s ++ steps_from schema (after_act run act further) rest) n
-    ∙ append_assoc steps (act_steps schema run act further) (steps_from schema (after_act run act further) rest)
-    ∙ ap (λ b. steps ++ (act_steps schema run act b ++ steps_from schema (after_act run act b) rest)) f
-    ∙ ap (λ l. steps ++ l) (sym (first_act schema run act rest))
-    ∙ ap (λ l. steps ++ steps_from schema run l) (sym e) ∙ h
+pub next_act : (schema : Schema) (run : Run) (log : List Update) (act : Act) (before rest : List Act) (steps now all : List Step) (further : Bool)
+    → before ≡ act ∷ rest → further ≡ goes_on (events_from schema (log_after log act) rest) → now ≡ steps ++ act_steps schema run log act further
+    → steps ++ steps_from run (events_from schema log before) ≡ all → now ++ steps_from (after_act run act further) (events_from schema (log_after log act) rest) ≡ all
+next_act schema run log act before rest steps now all further e f n h =
+    let left : List Event = events_from schema (log_after log act) rest in
+    ap (λ s. s ++ steps_from (after_act run act further) left) n
+    ∙ append_assoc steps (act_steps schema run log act further) (steps_from (after_act run act further) left)
+    ∙ ap (λ b. steps ++ (act_steps schema run log act b ++ steps_from (after_act run act b) left)) f
+    ∙ ap (λ l. steps ++ l) (sym (first_act schema run log act rest))
+    ∙ ap (λ l. steps ++ steps_from run (events_from schema log l)) (sym e) ∙ h
+
+-- it continues after one more act
+pub continues : (player after : Player) (f : Form) (act : Act) (before rest all : List Act) (further : Bool)
+    → before ≡ act ∷ rest → further ≡ nat_lt 0 (yields_in rest) → Acts player after act further → Continues player f before all → Continues after f rest all
+continues player after f act before rest all further e g did h =
+    let d = did f h.run h.log h.follows in
+    record {
+      run = after_act h.run act further;
+      log = log_after h.log act;
+      follows = d.0;
+      steps = next_act (schema_of f) h.run h.log act before rest player.steps after.steps (steps_of (events_from (schema_of f) [] all)) further e (g ∙ sym (goes_on_is (schema_of f) (log_after h.log act) rest)) d.1 h.steps;
+    }

@@ -4,13 +4,13 @@ ghost use Rattle.std.specs.Option.{ForSome};
 ghost use Rattle.cloud_base.specs.declared.update.Query.TheVariants.{Get};
 ghost use Rattle.cloud_base.specs.declared.update.Update.{Update};
 ghost use Rattle.cloud_base.specs.declared.update.Update.TheVariants.{Cell};
-ghost use Rattle.cloud_parse.specs.Form.{Form, ActFits};
+ghost use Rattle.cloud_parse.specs.Form.{ActFits};
 ghost use Rattle.revision_diagram.specs.declared.step.Step.TheVariants.{Fork};
-ghost use Rattle.one_client.specs.Program.{schema_of, change_of};
-ghost use Rattle.one_client.specs.Steps.{Run, first_run, pull};
+ghost use Rattle.one_client.specs.Program.{change_of};
+ghost use Rattle.one_client.specs.Steps.{first_run, pull};
 ghost use Rattle.fj_core.specs.Changes.{of_int};
 ghost use Rattle.global_cells.specs.Cells.{CellsStand};
-ghost use Rattle.cloud_drive.specs.Play.{Follows, act_steps, after_act};
+ghost use Rattle.cloud_drive.specs.Play.{Follows, Acts};
 
 use crate::player::{Player, Received};
 use cloud_base::{Answer, CellChange, Keys, Memory, Query, Sequence, Update};
@@ -20,9 +20,9 @@ use global_cells::{Globals, answers_are_plain};
 use revision_diagram::{Step, StepList};
 use std::alloc::Global;
 
-// A client of so many globals: a fork of the server gave its first revision.
+// A client of `count` globals: a fork of the server gave its first revision.
 pub fn start(alloc: Global, count: usize) -> Result<Player, Memory>
-    ensures follows { IfOk result (λ player. Follows player first_run) }
+    ensures follows { IfOk result (λ player. Follows player first_run []) }
     ensures count { IfOk result (λ player. length player.current ≡ count) }
     ensures steps { IfOk result (λ player. player.steps ≡ Fork 0 0 ∷ []) }
     ensures next { IfOk result (λ player. player.next ≡ 2) }
@@ -73,9 +73,8 @@ fn change(
     amount: Amount,
 ) -> Result<Player, Memory>
     requires fits { ActFits (length player.current) (Act.Change global operation amount) }
-    ensures run { IfOk result (λ after. (f : Form) (run : Run) → Follows player run
-        → Follows after (after_act run (Act.Change global operation amount) false)
-        × (after.steps ≡ player.steps ++ act_steps (schema_of f) run (Act.Change global operation amount) false)) }
+    ensures run { IfOk result (λ after.
+        Acts player after (Act.Change global operation amount) false) }
     ensures count { IfOk result (λ after. length after.current ≡ length player.current) }
     ensures next { IfOk result (λ after. after.next ≡ player.next) }
 {
@@ -102,9 +101,7 @@ fn change(
 
 fn print(player: Player, global: u16) -> Result<Player, Memory>
     requires { global < length player.current }
-    ensures run { IfOk result (λ after. (f : Form) (run : Run) → Follows player run
-        → Follows after (after_act run (Act.Print global) false)
-        × (after.steps ≡ player.steps ++ act_steps (schema_of f) run (Act.Print global) false)) }
+    ensures run { IfOk result (λ after. Acts player after (Act.Print global) false) }
     ensures count { IfOk result (λ after. length after.current ≡ length player.current) }
     ensures next { IfOk result (λ after. after.next ≡ player.next) }
 {
@@ -130,20 +127,23 @@ fn print(player: Player, global: u16) -> Result<Player, Memory>
     })
 }
 
-// The revision that has all that the client did and got: the received one, if there is one, with the
-// standing one joined into it.
-fn pulled(
+// The revision that has all that the client did and got: the received one, if there is one, with
+// the standing one joined into it.
+fn pull(
     received: Option<Received>,
     standing: u32,
     current: Globals,
     steps: &mut StepList,
 ) -> Result<Received, Memory>
     requires { ForSome received (λ r. length r.globals ≡ length current) }
-    ensures steps { OnOk result (steps.new ≡ steps.old ++ pull standing (option_map (λ r. r.revision) received)) }
-    ensures revision { IfOk result (λ p. p.revision ≡ unwrap_or (option_map (λ r. r.revision) received) standing) }
+    ensures steps { OnOk result (steps.new
+        ≡ steps.old ++ pull standing (option_map (λ r. r.revision) received)) }
+    ensures revision { IfOk result (λ p. p.revision
+        ≡ unwrap_or (option_map (λ r. r.revision) received) standing) }
     ensures count { IfOk result (λ p. length p.globals ≡ length current) }
-    ensures stands { IfOk result (λ p. (pushed since : List Update) → CellsStand current pushed since
-        → IfSome received (λ r. CellsStand r.globals pushed []) → CellsStand p.globals pushed since) }
+    ensures stands { IfOk result (λ p. (pushed since : List Update)
+        → CellsStand current pushed since → IfSome received (λ r. CellsStand r.globals pushed [])
+        → CellsStand p.globals pushed since) }
 {
     match received {
         Some(
@@ -171,10 +171,13 @@ fn receive(
     revision: u32,
     steps: &mut StepList,
 ) -> Result<Option<Received>, Memory>
-    ensures steps { OnOk result (steps.new ≡ steps.old ++ (if further then Fork 0 0 ∷ [] else [])) }
-    ensures revision { IfOk result (λ r. option_map (λ r. r.revision) r ≡ (if further then Some revision else None)) }
+    ensures steps { OnOk result (steps.new
+        ≡ steps.old ++ (if further then Fork 0 0 ∷ [] else [])) }
+    ensures revision { IfOk result (λ r. option_map (λ r. r.revision) r
+        ≡ (if further then Some revision else None)) }
     ensures count { IfOk result (λ r. ForSome r (λ r. length r.globals ≡ length server.now)) }
-    ensures stands { IfOk result (λ r. (log : List Update) → CellsStand server.now [] log → IfSome r (λ r. CellsStand r.globals log [])) }
+    ensures stands { IfOk result (λ r. (log : List Update) → CellsStand server.now [] log
+        → IfSome r (λ r. CellsStand r.globals log [])) }
 {
     if !further {
         return Ok(None);
@@ -194,9 +197,7 @@ fn next_after(next: u32, further: bool) -> u32
 
 fn meet(alloc: Global, player: Player, further: bool) -> Result<Player, Memory>
     requires { player.next + 2 < 2 ^ 32 }
-    ensures run { IfOk result (λ after. (f : Form) (run : Run) → Follows player run
-        → Follows after (after_act run Act.Yield further)
-        × (after.steps ≡ player.steps ++ act_steps (schema_of f) run Act.Yield further)) }
+    ensures run { IfOk result (λ after. Acts player after Act.Yield further) }
     ensures count { IfOk result (λ after. length after.current ≡ length player.current) }
     ensures next { IfOk result (λ after. after.next ≤ player.next + 2) }
 {
@@ -209,7 +210,7 @@ fn meet(alloc: Global, player: Player, further: bool) -> Result<Player, Memory>
         mut steps,
     } = player;
     steps.push(Step::Mark(standing, false))?;
-    let Received { revision, globals } = pulled(received, standing, current, &mut steps)?;
+    let Received { revision, globals } = pull(received, standing, current, &mut steps)?;
     steps.push(Step::Fork(revision, 0))?;
     steps.push(Step::Join(0, revision))?;
     server.join(&globals);
@@ -229,9 +230,7 @@ fn meet(alloc: Global, player: Player, further: bool) -> Result<Player, Memory>
 pub fn act(alloc: Global, player: Player, act: Act, further: bool) -> Result<Player, Memory>
     requires fits { ActFits (length player.current) act }
     requires room { player.next + 2 < 2 ^ 32 }
-    ensures run { IfOk result (λ after. (f : Form) (run : Run) → Follows player run
-        → Follows after (after_act run act further)
-        × (after.steps ≡ player.steps ++ act_steps (schema_of f) run act further)) }
+    ensures run { IfOk result (λ after. Acts player after act further) }
     ensures count { IfOk result (λ after. length after.current ≡ length player.current) }
     ensures next { IfOk result (λ after. after.next ≤ player.next + 2) }
 {

@@ -1,11 +1,10 @@
 // Playing a tree: its steps and its report.
-ghost use Rattle.std.specs.Prelude.{◌≡◌, ◌-◌, ◌≤◌, ◌∷◌, length, if◌then◌else◌, IfOk};
+ghost use Rattle.std.specs.Prelude.{◌≡◌, ◌-◌, ◌≤◌, [], length, if◌then◌else◌, IfOk};
 ghost use Rattle.std.specs.List.{AllByRecursion};
 ghost use Rattle.cloud_parse.specs.Form.{Form, ActFits};
-ghost use Rattle.revision_diagram.specs.declared.step.Step.TheVariants.{Fork};
-ghost use Rattle.one_client.specs.Program.{budget, cost, begun, end_of, schema_of};
-ghost use Rattle.one_client.specs.Steps.{first_run, is_yield, steps_from, steps_of, report_of};
-ghost use Rattle.cloud_drive.specs.Play.{yields_in};
+ghost use Rattle.one_client.specs.Program.{budget, cost, begun, end_of, schema_of, events_from, events_of, report_of};
+ghost use Rattle.one_client.specs.Steps.{steps_of};
+ghost use Rattle.cloud_drive.specs.Play.{is_yield_act, yields_in};
 
 use crate::act::{act, start};
 use cloud_base::{CellType, End, Memory, Owner, Property, Schema, Sequence};
@@ -14,6 +13,7 @@ use step_text::lines;
 use revision_diagram::StepList;
 use std::alloc::Global;
 use std::slice;
+use step_text::report;
 
 /// The turns that a client has.
 pub const BUDGET: u32 = 16_384;
@@ -44,7 +44,7 @@ fn begun(acts: &[Act]) -> &[Act]
 }
 
 fn is_yield(act: Act) -> bool
-    ensures { result ≡ is_yield act }
+    ensures { result ≡ is_yield_act act }
 {
     match act {
         Act::Yield => true,
@@ -60,7 +60,7 @@ fn count_yields(acts: &[Act]) -> usize
 
 // The yields that are left after an act.
 fn left_after(yields: usize, act: Act) -> usize
-    ensures { result ≡ (if is_yield act then yields - 1 else yields) }
+    ensures { result ≡ (if is_yield_act act then yields - 1 else yields) }
 {
     if is_yield(act) {
         yields.saturating_sub(1)
@@ -88,11 +88,12 @@ fn schema_of(alloc: Global, tree: &Tree) -> Result<Schema, Memory>
     })
 }
 
-// The steps of acts over so many globals.
+// The steps of acts over `count` globals.
 fn play_acts(alloc: Global, count: usize, acts: &[Act]) -> Result<StepList, Memory>
     requires few { length acts.now ≤ budget }
     requires fit { AllByRecursion (ActFits count) acts.now }
-    ensures { IfOk result (λ steps. (f : Form) → steps ≡ Fork 0 0 ∷ steps_from (schema_of f) first_run acts.now) }
+    ensures { IfOk result (λ steps. (f : Form)
+        → steps ≡ steps_of (events_from (schema_of f) [] acts.now)) }
 {
     let mut player = start(alloc, count)?;
     let mut yields = count_yields(acts);
@@ -106,7 +107,7 @@ fn play_acts(alloc: Global, count: usize, acts: &[Act]) -> Result<StepList, Memo
 /// The steps of the run of a tree.
 #[tactic(auto, using(crate::proofs::Begun::begun_few, crate::proofs::Begun::begun_fit))]
 pub fn steps(alloc: Global, tree: &Tree) -> Result<StepList, Memory>
-    ensures { IfOk result (λ steps. steps ≡ steps_of tree.now) }
+    ensures { IfOk result (λ steps. steps ≡ steps_of (events_of tree.now)) }
 {
     play_acts(alloc, tree.globals().len(), begun(tree.acts()))
 }

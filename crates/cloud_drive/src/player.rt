@@ -12,8 +12,8 @@ pub struct Received {
     pub globals: Globals,
 }
 
-// The run of one client. `standing` is the client's revision, with the state `current`, and `next` the
-// next free number of a revision. Each state has a cell for each global.
+// The run of one client. `standing` is the client's revision, with the state `current`, and `next`
+// the next free number of a revision. Each state has a cell for each global.
 #[derive(Drop)]
 pub struct Player {
     pub server: Globals,

@@ -8,7 +8,7 @@ use Rattle.cloud_drive.proofs.Follow.{one_longer}
 use Rattle.cloud_drive.proofs.act.change.Goals as goal
 
 pub returns-clause-run : goal.returns-clause-run
-returns-clause-run c f run h =
+returns-clause-run c f run log h =
     let global = c.args.global in
     let update = update_of global c.args.operation c.args.amount in (
       record {
@@ -17,7 +17,7 @@ returns-clause-run c f run h =
         next = h.next;
         pushed = h.pushed;
         since = h.since ++ update ∷ [];
-        log = one_longer run.log h.pushed h.since update h.log;
+        logs = one_longer log h.pushed h.since update h.logs;
         server = h.server;
         current = subst (λ (change : CellChange). CellsStand c.update.new.self h.pushed (h.since ++ Cell global [] change ∷ [])) c.int_change-change.ensures (c.update.ensures.stands h.pushed h.since h.current);
         waiting = h.waiting;

@@ -7,7 +7,7 @@ use Rattle.cloud_drive.proofs.Follow.{five_parts, next_number}
 use Rattle.cloud_drive.proofs.act.meet.Goals as goal
 
 pub returns-clause-run : goal.returns-clause-run
-returns-clause-run c f run h =
+returns-clause-run c f run log h =
     let player = c.args.player in
     let further = c.args.further in
     let forked = cond further (Fork 0 0 ∷ []) [] in
@@ -24,7 +24,7 @@ returns-clause-run c f run h =
         next = c.next_after.ensures ∙ ap (λ n. n + cond further 2 1) h.next;
         pushed = h.pushed ++ h.since;
         since = [];
-        log = h.log ∙ sym (append-nil (h.pushed ++ h.since));
+        logs = h.logs ∙ sym (append-nil (h.pushed ++ h.since));
         server = server;
         current = c.in_ok-current.ensures.stands h.pushed h.since joined;
         waiting = c.in_ok-received.ensures.stands (h.pushed ++ h.since) server;

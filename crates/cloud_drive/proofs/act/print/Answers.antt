@@ -10,22 +10,22 @@ use Rattle.cloud_drive.proofs.Follow.{two_parts, globals_are_ints}
 use Rattle.cloud_drive.proofs.act.print.Goals as goal
 
 pub returns-clause-run : goal.returns-clause-run
-returns-clause-run c f run h =
+returns-clause-run c f run log h =
     let global = c.args.global in
     let steps = c.args.player.steps in
     let value : Answer = Int c.ask-value.result in
     let held : Answer = Int (to_z w64 (of_z w64 c.ask-value.result)) in
     let same : held ≡ value = search rules in
-    let right : value ≡ answer (schema_of f) run.log (query_of global) =
-    ap Int (c.ask-value.ensures h.pushed h.since h.current ∙ ap (λ log. int_plain (changes_of global log)) (sym h.log))
-    ∙ sym (c.answers_are_plain.ensures (schema_of f) run.log global (globals_are_ints f global)) in (
+    let right : value ≡ answer (schema_of f) log (query_of global) =
+    ap Int (c.ask-value.ensures h.pushed h.since h.current ∙ ap (λ updates. int_plain (changes_of global updates)) (sym h.logs))
+    ∙ sym (c.answers_are_plain.ensures (schema_of f) log global (globals_are_ints f global)) in (
       record {
         standing = h.standing;
         received = h.received;
         next = h.next;
         pushed = h.pushed;
         since = h.since;
-        log = h.log;
+        logs = h.logs;
         server = h.server;
         current = h.current;
         waiting = h.waiting;

@@ -5,10 +5,10 @@ use Rattle.cloud_parse.specs.declared.tree.Act.{Act}
 use Rattle.cloud_parse.specs.declared.tree.Act.TheVariants.{Change}
 use Rattle.cloud_parse.specs.declared.tree.Operation.TheVariants.{Add}
 use Rattle.cloud_parse.specs.Form.{ActFits}
-use Rattle.one_client.specs.Program.{schema_of}
-use Rattle.one_client.specs.Steps.{steps_from, goes_on}
-use Rattle.cloud_drive.specs.Play.{after_act, yields_in}
-use Rattle.cloud_drive.proofs.Begun.{yields_left, goes_on_is, next_act}
+use Rattle.one_client.specs.Program.{schema_of, events_from}
+use Rattle.one_client.specs.Steps.{steps_from}
+use Rattle.cloud_drive.specs.Play.{yields_in}
+use Rattle.cloud_drive.proofs.Begun.{yields_left, continues}
 use Rattle.cloud_drive.proofs.play_tree.play_acts.Goals as goal
 
 abbrev none : Act
@@ -25,23 +25,16 @@ loop-next-preserved c =
     let next : suc i ≡ i + 1 = omega arith in
     let split : drop i acts ≡ act ∷ rest = drop-cons acts i none c.loop-next-test.true ∙ ap (λ k. act ∷ drop k acts) next in
     let left : c.left_after-yields.result ≡ yields_in rest = yields_left act (drop i acts) rest c.loop-next.yields c.left_after-yields.result split kept.yields c.left_after-yields.ensures in
-    let goes : further ≡ goes_on rest = ap (λ n. nat_lt 0 n) left ∙ sym (goes_on_is rest) in
     record {
       count = c.in_ok-player-2.ensures.count ∙ kept.count;
       next = omega (arith, kept.next, c.in_ok-player-2.ensures.next);
       yields = left;
       fit = (subst (AllByRecursion (ActFits c.args.count)) split kept.fit).1;
-      follows = λ f.
-          let before = kept.follows f in
-          let run = c.in_ok-player-2.ensures.run f before.0 before.1 in (
-            after_act before.0 act further,
-            run.0,
-            next_act (schema_of f) before.0 act (drop i acts) rest c.loop-next.player.steps c.in_ok-player-2.player.steps _ further split goes run.1 before.2,
-          );
+      follows = λ f. continues c.loop-next.player c.in_ok-player-2.player f act (drop i acts) rest acts further split (ap (λ n. nat_lt 0 n) left) c.in_ok-player-2.ensures.run (kept.follows f);
     }
 
 pub returns : goal.returns
 returns c f =
-    let before = c.loop-next.invariant.follows f in
+    let last = c.loop-next.invariant.follows f in
     let out : drop c.loop-next.next-index c.args.acts.now ≡ [] = drop_all c.loop-next.next-index c.args.acts.now (omega arith) in
-    sym (append-nil c.loop-next.player.steps) ∙ ap (λ l. c.loop-next.player.steps ++ steps_from (schema_of f) before.0 l) (sym out) ∙ before.2
+    sym (append-nil c.loop-next.player.steps) ∙ ap (λ l. c.loop-next.player.steps ++ steps_from last.run (events_from (schema_of f) last.log l)) (sym out) ∙ last.steps

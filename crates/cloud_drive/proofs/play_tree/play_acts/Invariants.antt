@@ -1,10 +1,7 @@
-use Rattle.std.proofs.Common.{◌≡◌, ◌+◌, ◌*◌, ◌≤◌, ◌∷◌, ◌++◌, length, drop}
+use Rattle.std.proofs.Common.{◌≡◌, ◌+◌, ◌*◌, ◌≤◌, length, drop}
 use Rattle.std.specs.List.{AllByRecursion}
 use Rattle.cloud_parse.specs.Form.{Form, ActFits}
-use Rattle.revision_diagram.specs.declared.step.Step.TheVariants.{Fork}
-use Rattle.one_client.specs.Program.{schema_of}
-use Rattle.one_client.specs.Steps.{Run, first_run, steps_from}
-use Rattle.cloud_drive.specs.Play.{Follows, yields_in}
+use Rattle.cloud_drive.specs.Play.{Continues, yields_in}
 use Rattle.cloud_drive.proofs.play_tree.play_acts.Given as goal
 
 -- the player follows the run, and its steps with those of the rest are the steps of all
@@ -14,5 +11,5 @@ invariant-loop-next l = record {
   next : l.player.next ≤ 2 + 2 * l.next-index;
   yields : l.yields ≡ yields_in (drop l.next-index l.acts);
   fit : AllByRecursion (ActFits l.count) (drop l.next-index l.acts);
-  follows : (f : Form) → (run : Run) × Follows l.player run × (l.player.steps ++ steps_from (schema_of f) run (drop l.next-index l.acts) ≡ Fork 0 0 ∷ steps_from (schema_of f) first_run l.acts);
+  follows : (f : Form) → Continues l.player f (drop l.next-index l.acts) l.acts;
 }
