@@ -11,9 +11,9 @@ use Rattle.cloud_parse.specs.declared.fault.Which.TheVariants as which
 use Rattle.revision_diagram.specs.declared.step.Step.{Step}
 use Rattle.step_text.specs.Legible.{Told}
 use Rattle.step_text.specs.Text.{report_text}
-use Rattle.one_client.specs.Headline.{Headline}
-use Rattle.one_client.specs.Program.{schema_of, trace}
-use Rattle.one_client.specs.Steps.{report_of}
+use Rattle.revision_diagram.specs.Headline.{Headline}
+use Rattle.revision_diagram.specs.Meeting.{below_server}
+use Rattle.one_client.specs.Program.{schema_of, trace, report_of}
 use Rattle.cloud_run.specs.declared.status.Status.{Status}
 use Rattle.cloud_run.specs.declared.status.Status.TheVariants as status
 use Rattle.cloud_run.specs.Flows.{AtEnd, Got, GotPart}
@@ -72,7 +72,7 @@ Writes status.Memory left after held now = now ≡ held
 -- the schema's shape have it.
 abbrev pub WritesLawful : Option (List ℕ) → Option (List ℕ) → Option (List ℕ) → Type 0
 WritesLawful left held now =
-    (f : Form) × (steps : List Step) × (end : End) × LeftForm left f × Headline (schema_of f) (trace f) end steps
+    (f : Form) × (steps : List Step) × (end : End) × LeftForm left f × Headline (schema_of f) below_server (trace f ∷ []) (end ∷ []) steps
     × Got held now (report_text (schema_of f) (f.client ∷ []) steps (end ∷ [])) × Told (schema_of f) (f.client ∷ []) steps (end ∷ [])
 
 -- the source tells its text, and that is short enough and has a tree
