@@ -19,19 +19,13 @@ mod tests {
     use std::alloc::Global;
     use std::test::Fail;
 
-    fn one(key: Key) -> Keys {
-        let mut keys = Keys::empty();
-        keys.push(key);
-        keys
-    }
-
     fn text(bytes: &[u8]) -> Result<Text, Fail> {
         Ok(Text::new(bytes)?)
     }
 
     // The key that each kind has in these tests, by number.
     fn key(kind: u8) -> Result<Keys, Fail> {
-        Ok(one(match kind {
+        Ok(Keys::one(match kind {
             0 => Key::Int(-3),
             1 => Key::Text(text(b"milk")?),
             _ => Key::Ref(Uid::new(2, 5)),

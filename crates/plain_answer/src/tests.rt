@@ -93,18 +93,12 @@ fn id(serial: u32) -> Uid {
     Uid::new(0, serial)
 }
 
-fn one(key: Key) -> Keys {
-    let mut keys = Keys::empty();
-    keys.push(key);
-    keys
-}
-
 fn named(bytes: &[u8]) -> Keys {
-    one(Key::Text(text(bytes)))
+    Keys::one(Key::Text(text(bytes)))
 }
 
 fn of(serial: u32) -> Keys {
-    one(Key::Ref(id(serial)))
+    Keys::one(Key::Ref(id(serial)))
 }
 
 fn buy(item: &[u8], count: i64) -> Update {
@@ -112,7 +106,11 @@ fn buy(item: &[u8], count: i64) -> Update {
 }
 
 fn sit(who: &[u8]) -> Update {
-    Update::Cell(SEAT, one(Key::Int(1)), CellChange::SetIfEmpty(text(who)))
+    Update::Cell(
+        SEAT,
+        Keys::one(Key::Int(1)),
+        CellChange::SetIfEmpty(text(who)),
+    )
 }
 
 fn total(change: CellChange) -> Update {
@@ -173,7 +171,7 @@ fn cells(alloc: Global) -> Result<Vec<Row>, Memory> {
         cases.push(case(log, Query::Entries(GROCERY), listed))?;
     }
 
-    let seat = Query::Get(SEAT, one(Key::Int(1)));
+    let seat = Query::Get(SEAT, Keys::one(Key::Int(1)));
     let log = vec![in alloc; sit(b"ann"), sit(b"bob")]?;
     cases.push(case(log, seat.copied(), Answer::Text(text(b"ann"))))?;
     let log = vec![in alloc; sit(b""), sit(b"bob"), sit(b"ann")]?;

@@ -10,17 +10,15 @@ use Rattle.std.proofs.lemmas.Fmt.{decimal_is_IsNumeral}
 use Rattle.std.proofs.lemmas.List.{append_assoc}
 use Rattle.std.proofs.lemmas.Str.Parse.{digit_from_value}
 use Rattle.cloud_base.specs.Values.{Id}
-use Rattle.cloud_base.specs.Shaped.{IsId, IsValue, IsShapedAnswer, cell_type}
+use Rattle.cloud_base.specs.Shaped.{IsId, IsShapedAnswer, cell_type, IsSaid}
 use Rattle.cloud_base.specs.declared.key.Key.{Key}
-use Rattle.cloud_base.specs.declared.schema.CellType.{CellType}
-use Rattle.cloud_base.specs.declared.schema.CellType.TheVariants as cell
 use Rattle.cloud_base.specs.declared.schema.Schema.{Schema}
 use Rattle.cloud_base.specs.declared.update.Answer.{Answer}
 use Rattle.cloud_base.specs.declared.update.Answer.TheVariants.{Int, Text, Truth, Id as IdAnswer, Ids, Tuples}
 use Rattle.cloud_base.specs.declared.update.Query.{Query}
 use Rattle.cloud_base.specs.declared.update.Query.TheVariants.{Get, All as AllOf, Entries, Alive}
 use Rattle.step_text.specs.Values.{id_text, tuple_text, truth_text, answer_text}
-use Rattle.step_text.specs.Legible.{IsSaid}
+use Rattle.cloud_base.proofs.ShapedLemmas.{value_is_said}
 use Rattle.step_text.proofs.TellPlaces.{cell_written}
 use Rattle.step_text.proofs.TellValues.{Stops, IsWritten, differ, integer_begins, integers_tell, quoted_tell, ids_tell, joined_tell, tuples_tell}
 
@@ -76,20 +74,6 @@ said_tell (IdAnswer i) (Ids ids) r s fa fb h k e = absurd fb
 said_tell (IdAnswer i) (Tuples tuples) r s fa fb h k e = absurd fb
 said_tell (Ids ids) b r s fa fb h k e = absurd fa
 said_tell (Tuples tuples) b r s fa fb h k e = absurd fa
-
-value_is_said : (type : CellType) (a : Answer) → IsValue type a → IsSaid a
-value_is_said cell.Int (Int n) h = h
-value_is_said cell.Int (Text t) h = absurd h
-value_is_said cell.Int (Truth t) h = absurd h
-value_is_said cell.Int (IdAnswer i) h = absurd h
-value_is_said cell.Int (Ids ids) h = absurd h
-value_is_said cell.Int (Tuples tuples) h = absurd h
-value_is_said cell.Text (Int n) h = absurd h
-value_is_said cell.Text (Text t) h = h
-value_is_said cell.Text (Truth t) h = absurd h
-value_is_said cell.Text (IdAnswer i) h = absurd h
-value_is_said cell.Text (Ids ids) h = absurd h
-value_is_said cell.Text (Tuples tuples) h = absurd h
 
 -- a list in brackets
 lists_tell : {X : Type 0} (text : X → List ℕ) (Fits : X → Type 0)

@@ -4,7 +4,7 @@ use Rattle.std.specs.Prelude.{All, nat_eq, decimal}
 use Rattle.std.proofs.lemmas.Bool.{false≢true}
 use Rattle.std.proofs.lemmas.List.{append_assoc, append_cancel_left}
 use Rattle.std.proofs.lemmas.List.Elements.{All-head, All-tail}
-use Rattle.cloud_base.specs.Shaped.{IsShaped, IsShapedQuery, IsShapedAnswer}
+use Rattle.cloud_base.specs.Shaped.{IsShaped, IsShapedQuery, IsShapedAnswer, IsSaid}
 use Rattle.cloud_base.specs.declared.end.End.{End}
 use Rattle.cloud_base.specs.declared.end.End.TheVariants as end
 use Rattle.cloud_base.specs.declared.schema.Schema.{Schema}
@@ -16,7 +16,7 @@ use Rattle.revision_diagram.specs.declared.step.Step.TheVariants.{Fork, Join, Do
 use Rattle.step_text.specs.Values.{answer_text}
 use Rattle.step_text.specs.Cells.{update_text, query_text}
 use Rattle.step_text.specs.Text.{client_name, mark_text, step_line, next_after, steps_text, end_text, end_line, ends_text, report_text}
-use Rattle.step_text.specs.Legible.{Legible, IsSaid, IsStep, IsEnd}
+use Rattle.step_text.specs.Legible.{Legible, IsStep, IsEnd}
 use Rattle.step_text.proofs.TellValues.{differ, words_tell, decimals_tell}
 use Rattle.step_text.proofs.TellPlaces.{name_is_word}
 use Rattle.step_text.proofs.TellAnswers.{answers_tell, said_tell}

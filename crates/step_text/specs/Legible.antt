@@ -1,11 +1,10 @@
 -- When the text of a report tells its steps: names are told apart, and each step is of the schema's shape.
-use Rattle.std.specs.Prelude.{◌≡◌, refl, ℕ, ◌<◌, ◌^◌, ⊤, true, List, [], ◌∷◌, length, All, pos, codes, FitsSigned}
-use Rattle.std.specs.Int.{w64}
+use Rattle.std.specs.Prelude.{◌≡◌, refl, ℕ, ◌<◌, ◌^◌, ⊤, true, List, [], ◌∷◌, length, All, pos, codes}
 use Rattle.std.proofs.Common.{ap, lit<, lit≤, lt→ltb}
 use Rattle.std.proofs.lemmas.List.Elements.{All-nil, All-cons}
 use Rattle.std.proofs.Math.Nat.{suc-ne-zero}
-use Rattle.cloud_base.specs.Values.{IsName, IsText}
-use Rattle.cloud_base.specs.Shaped.{IsId, IsShaped, IsShapedQuery, IsShapedAnswer}
+use Rattle.cloud_base.specs.Values.{IsName}
+use Rattle.cloud_base.specs.Shaped.{IsShaped, IsShapedQuery, IsShapedAnswer, IsSaid}
 use Rattle.cloud_base.specs.declared.end.End.{End}
 use Rattle.cloud_base.specs.declared.schema.CellType.{CellType}
 use Rattle.cloud_base.specs.declared.schema.KeyType.{KeyType}
@@ -36,15 +35,6 @@ pub record Legible (schema : Schema) (names : List (List ℕ)) : Type 0 where
   pub properties_differ : (a b : ℕ) → a < length schema.properties → b < length schema.properties → property_text schema a ≡ property_text schema b → a ≡ b
   pub entities_differ : (a b : ℕ) → a < length schema.entities → b < length schema.entities → entity_name schema a ≡ entity_name schema b → a ≡ b
   pub clients_differ : (a b : ℕ) → a < length names → b < length names → client_name names a ≡ client_name names b → a ≡ b
-
--- a value that may be printed: any but a list
-abbrev pub IsSaid : Answer → Type 0
-IsSaid (Answer.Int number) = FitsSigned w64 number
-IsSaid (Answer.Text text) = IsText text
-IsSaid (Answer.Truth truth) = ⊤
-IsSaid (Answer.Id id) = IsId id
-IsSaid (Answer.Ids ids) = ⊥
-IsSaid (Answer.Tuples tuples) = ⊥
 
 -- a step of the schema's shape, whose revisions are numbers of 32 bits
 abbrev pub IsStep : Schema → List (List ℕ) → Step → Type 0

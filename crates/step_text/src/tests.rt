@@ -209,9 +209,7 @@ fn orders(alloc: Global) -> Result<Schema, Fail> {
 }
 
 fn of_id(serial: u32) -> Keys {
-    let mut keys = Keys::empty();
-    keys.push(Key::Ref(Uid::new(0, serial)));
-    keys
+    Keys::one(Key::Ref(Uid::new(0, serial)))
 }
 
 fn deletion(alloc: Global) -> Result<Vec<u8>, Fail> {
