@@ -1,0 +1,10 @@
+// The tree of a source, how it is spelled in tokens, and its limits.
+#![tactic(auto)]
+
+mod expression;
+mod program;
+mod statement;
+
+pub use expression::{Expression, Level, Operator, Place};
+pub use program::{Client, Declaration, Item, Key, KeyType, Program, Property};
+pub use statement::{Operation, Statement};
