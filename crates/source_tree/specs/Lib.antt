@@ -1,3 +1,7 @@
 pub mod Expressions
-pub mod Statements
+pub mod Forms
+pub mod Heights
+pub mod Limits
 pub mod Programs
+pub mod Statements
+pub mod Words

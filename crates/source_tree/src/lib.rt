@@ -4,7 +4,9 @@
 mod expression;
 mod program;
 mod statement;
+mod tree;
 
 pub use expression::{Expression, Level, Operator, Place};
 pub use program::{Client, Declaration, Item, Key, KeyType, Program, Property};
 pub use statement::{Operation, Statement};
+pub use tree::Tree;
