@@ -43,6 +43,14 @@ impl Identifier {
         &self.name
     }
 
+    pub fn into_name(self) -> Name
+        ensures name { result ≡ self }
+        ensures identifier { IsIdentifier self }
+    {
+        let Identifier { name } = self;
+        name
+    }
+
     /// The same identifier.
     pub fn copy(&self, alloc: Global) -> Result<Identifier, Memory>
         ensures copy { IfOk result (λ identifier. identifier ≡ self.now) }
