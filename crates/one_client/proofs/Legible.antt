@@ -7,11 +7,11 @@ use Rattle.std.proofs.lemmas.Slice.Eq.{bytes_eq-Decides}
 use Rattle.std.specs.List.{AllByRecursion}
 use Rattle.std.specs.Int.{w64}
 use Rattle.std.specs.Str.{bytes_eq}
-use Rattle.std.proofs.lemmas.List.Elements.{All-from_recursion, All-nil, All-cons}
+use Rattle.std.proofs.lemmas.List.Elements.{All-from_recursion, recursion_from_All, All-nil, All-cons}
 use Rattle.cloud_base.specs.Values.{IsName}
 use Rattle.cloud_base.specs.Log.{of_cell}
 use Rattle.cloud_base.specs.PlainCell.{plain_int, plain_value}
-use Rattle.cloud_base.specs.Shaped.{AreKeys, IsCell, IsChange, IsValue, IsShaped, IsShapedQuery, IsShapedAnswer, cell_type}
+use Rattle.cloud_base.specs.Shaped.{AreKeys, IsCell, IsChange, IsValue, IsShaped, IsShapedAnswer, IsShapedEvent, IsSaid, cell_type}
 use Rattle.cloud_base.specs.Answer.{answer}
 use Rattle.cloud_base.specs.declared.end.End.{End}
 use Rattle.cloud_base.specs.declared.schema.CellType.TheVariants.{Int as IntCell}
@@ -31,7 +31,7 @@ use Rattle.cloud_parse.specs.Form.{Form, IsForm, ActFits, AllDifferent, place_of
 use Rattle.revision_diagram.specs.declared.step.Step.{Step}
 use Rattle.revision_diagram.specs.declared.step.Step.TheVariants.{Fork}
 use Rattle.step_text.specs.Cells.{property_of}
-use Rattle.step_text.specs.Legible.{Legible, IsProperty, IsSaid, IsStep, IsEnd, Told}
+use Rattle.step_text.specs.Legible.{Legible, IsProperty, IsStep, IsEnd, Told}
 use Rattle.one_client.specs.Program.{schema_of, global_property, budget, cost, begun, end_from, end_of, query_of, change_of, update_of, events_from, events_of}
 use Rattle.one_client.specs.Steps.{Run, first_run, steps_from, steps_of, goes_on, pull, yield_steps, after_yield}
 
@@ -143,14 +143,6 @@ answer_is : (f : Form) (log : List Update) (g : ℕ) → g < length f.globals �
 unfolding answer plain_value
 answer_is f log g lt = ap (λ type. plain_value type (of_cell g [] log)) (type_is f g lt)
 
--- the step of the event has the schema's shape
-abbrev EventFits : Schema → Event → Type 0
-EventFits schema (event.Do update) = IsShaped schema update
-EventFits schema (event.Ask query answer) = IsShapedQuery schema query × IsShapedAnswer schema query answer
-EventFits schema (event.Say answer) = IsSaid answer
-EventFits schema event.Yield = ⊤
-EventFits schema event.Flush = ⊤
-
 fewer : (received : Option ℕ) (n : ℕ) → IfSome received (λ r. r + 2 * suc n < 2 ^ 32) → IfSome received (λ r. r + 2 * n < 2 ^ 32)
 fewer None n room = tt
 fewer (Some r) n room = omega arith
@@ -188,7 +180,7 @@ module _ (schema : Schema) (names : List (List ℕ)) (some : 0 < length names) w
       let low_pulled = pulled_low run.standing run.received low lower in
       (low, both_parts (IsStep schema names) (pull run.standing run.received) _ (pull_fits run.standing run.received low lower) ((low_pulled, some), ((omega arith, low_pulled), serve_fits further)))
 
-  steps_fit : (run : Run) (events : List Event) → Room run (length events) → AllByRecursion (EventFits schema) events → Fit (steps_from run events)
+  steps_fit : (run : Run) (events : List Event) → Room run (length events) → AllByRecursion (IsShapedEvent schema) events → Fit (steps_from run events)
   steps_fit run [] room fit = tt
   steps_fit run (event.Do update ∷ events) room fit = ((omega (arith, room.standing), fit.0), steps_fit run events (room_left run (length events) room) fit.1)
   steps_fit run (event.Ask query answer ∷ events) room fit = ((omega (arith, room.standing), fit.0.0, fit.0.1), steps_fit run events (room_left run (length events) room) fit.1)
@@ -206,7 +198,7 @@ module _ (fits : (changes : List CellChange) → FitsSigned w64 (plain_int chang
   said : (log : List Update) (g : ℕ) → g < length f.globals → IsSaid (answer (schema_of f) log (query_of g))
   said log g lt = subst IsSaid (sym (answer_is f log g lt)) (fits (of_cell g [] log))
 
-  events_fit : (log : List Update) (acts : List Act) → AllByRecursion (ActFits (length f.globals)) acts → AllByRecursion (EventFits (schema_of f)) (events_from (schema_of f) log acts)
+  events_fit : (log : List Update) (acts : List Act) → AllByRecursion (ActFits (length f.globals)) acts → AllByRecursion (IsShapedEvent (schema_of f)) (events_from (schema_of f) log acts)
   events_fit log [] fit = tt
   events_fit log (Change g operation amount ∷ acts) fit = (update_is f h g operation amount fit.0.0 fit.0.1, events_fit (log ++ update_of g operation amount ∷ []) acts fit.1)
   events_fit log (Print g ∷ acts) fit = ((cell_is f h g fit.0, asked log g fit.0), (said log g fit.0, events_fit log acts fit.1))
@@ -223,14 +215,22 @@ end_fits turns [] = tt
 end_fits zero (act ∷ acts) = tt
 end_fits (suc turns) (act ∷ acts) = end_fits (suc turns - cost act) acts
 
+-- the text of steps and ends tells them
+abbrev pub Tells : Type 0
+Tells = (schema : Schema) (names : List (List ℕ)) (steps : List Step) (ends : List End) → Legible schema names → All (IsStep schema names) steps → All IsEnd ends → Told schema names steps ends
+
+pub events_tell : Tells → (schema : Schema) (names : List (List ℕ)) (events : List Event) (ends : List End) → Legible schema names → 0 < length names → All (IsShapedEvent schema) events → 2 * length events + 2 < 2 ^ 32 → All IsEnd ends → Told schema names (steps_of events) ends
+events_tell tells schema names events ends h some shaped few is_end =
+    let room : Room first_run (length events) = record { standing = omega arith; received = tt; next = omega arith } in
+    let steps : All (IsStep schema names) (steps_of events) = All-from_recursion (IsStep schema names) (steps_of events) ((omega arith, some), steps_fit schema names some first_run events room (recursion_from_All (IsShapedEvent schema) events shaped)) in
+    tells schema names (steps_of events) ends h steps is_end
+
 pub run_tells : ((changes : List CellChange) → FitsSigned w64 (plain_int changes))
-    → ((schema : Schema) (names : List (List ℕ)) (steps : List Step) (ends : List End) → Legible schema names → All (IsStep schema names) steps → All IsEnd ends → Told schema names steps ends)
+    → ((schema : Schema) (names : List (List ℕ)) (events : List Event) (ends : List End) → Legible schema names → 0 < length names → All (IsShapedEvent schema) events → 2 * length events + 2 < 2 ^ 32 → All IsEnd ends → Told schema names (steps_of events) ends)
     → (f : Form) → IsForm f → Told (schema_of f) (f.client ∷ []) (steps_of (events_of f)) (end_of f ∷ [])
 run_tells fits tells f h =
     let acts : List Act = begun budget f.acts in
     let few : length (begun budget f.acts) ≤ budget = begun_few budget f.acts in
     let events : length (events_of f) ≤ 2 * length (begun budget f.acts) = events_few (schema_of f) [] acts in
-    let room : Room first_run (length (events_of f)) = record { standing = omega arith; received = tt; next = omega arith } in
-    let fit = events_fit fits f h [] acts (begun_fit (length f.globals) budget f.acts h.acts) in
-    let steps = All-from_recursion (IsStep (schema_of f) (f.client ∷ [])) (steps_of (events_of f)) ((omega arith, omega arith), steps_fit (schema_of f) (f.client ∷ []) (omega arith) first_run (events_of f) room fit) in
-    tells (schema_of f) (f.client ∷ []) (steps_of (events_of f)) (end_of f ∷ []) (legible f h) steps (All-cons IsEnd (end_of f) [] (end_fits budget f.acts) (All-nil IsEnd))
+    let shaped : All (IsShapedEvent (schema_of f)) (events_of f) = All-from_recursion (IsShapedEvent (schema_of f)) (events_of f) (events_fit fits f h [] acts (begun_fit (length f.globals) budget f.acts h.acts)) in
+    tells (schema_of f) (f.client ∷ []) (events_of f) (end_of f ∷ []) (legible f h) (omega arith) shaped (omega arith) (All-cons IsEnd (end_of f) [] (end_fits budget f.acts) (All-nil IsEnd))

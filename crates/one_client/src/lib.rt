@@ -3,8 +3,9 @@
 // It serves until clients are many.
 #![tactic(auto)]
 
-ghost use Rattle.std.specs.Prelude.{◌≡◌, List, [], ◌∷◌};
+ghost use Rattle.std.specs.Prelude.{◌≡◌, ℕ, ◌+◌, ◌*◌, ◌^◌, ◌<◌, List, [], ◌∷◌, length, All};
 ghost use Rattle.cloud_base.specs.Events.{Outcome, ended, answers_in};
+ghost use Rattle.cloud_base.specs.Shaped.{IsShapedEvent};
 ghost use Rattle.cloud_base.specs.declared.end.End.{End};
 ghost use Rattle.cloud_base.specs.declared.schema.Schema.{Schema};
 ghost use Rattle.cloud_base.specs.declared.update.Answer.{Answer};
@@ -12,7 +13,7 @@ ghost use Rattle.cloud_base.specs.declared.update.Event.{Event};
 ghost use Rattle.cloud_parse.specs.Form.{Form, IsForm};
 ghost use Rattle.revision_diagram.specs.Headline.{Headline};
 ghost use Rattle.revision_diagram.specs.Meeting.{below_server};
-ghost use Rattle.step_text.specs.Legible.{Told};
+ghost use Rattle.step_text.specs.Legible.{Legible, IsEnd, Told};
 ghost use Rattle.one_client.specs.Program.{schema_of, trace, events_of, end_of};
 ghost use Rattle.one_client.specs.Steps.{steps_of, RightEvents, HasNoFlush};
 
@@ -58,11 +59,22 @@ pub fn runs_are_lawful()
     events_are_lawful();
 }
 
+/// The text of the steps of events and of ends tells them, where names are told apart and the events
+/// are of the schema's shape.
+pub fn reports_tell_events()
+    ensures { (schema : Schema) (names : List (List ℕ)) (events : List Event) (ends : List End)
+        → Legible schema names → 0 < length names → All (IsShapedEvent schema) events
+        → 2 * length events + 2 < 2 ^ 32 → All IsEnd ends
+        → Told schema names (steps_of events) ends }
+{
+    reports_tell_steps();
+}
+
 /// The text of a run's report tells the steps and the end of the run.
 pub fn reports_tell_runs()
     ensures { (f : Form) → IsForm f
         → Told (schema_of f) (f.client ∷ []) (steps_of (events_of f)) (end_of f ∷ []) }
 {
     plain_steps();
-    reports_tell_steps();
+    reports_tell_events();
 }
