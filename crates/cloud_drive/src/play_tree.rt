@@ -9,11 +9,10 @@ ghost use Rattle.cloud_drive.specs.Play.{is_yield_act, yields_in};
 use crate::act::{act, start};
 use cloud_base::{CellType, End, Memory, Owner, Property, Schema, Sequence};
 use cloud_parse::{Act, Tree};
-use step_text::lines;
 use revision_diagram::StepList;
 use std::alloc::Global;
 use std::slice;
-use step_text::report;
+use step_text::lines;
 
 /// The turns that a client has.
 pub const BUDGET: u32 = 16_384;
