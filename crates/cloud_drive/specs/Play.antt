@@ -134,7 +134,7 @@ module _ where
   }
 
   pub example_follows : Follows player (here None) so_far
-  unfolding int_wrap
+  unfolding int_wrap plain_int
   example_follows = record {
     standing = refl;
     received = refl;
