@@ -107,3 +107,9 @@ act_yield globals = ap (λ x. act_of globals x) (sym (s.rolls-Yield)) ∙ fold-r
 pub act_flush : (globals : List (List ℕ)) → act_of globals (s.Flush) ≡ None
 unfolding act_of
 act_flush globals = ap (λ x. act_of globals x) (sym (s.rolls-Flush)) ∙ fold-roll-Statement (Option FirstAct) (act_step globals) (Statement-F.Flush)
+
+-- each kind of expression
+pub ruleset expressions = (simple_number, simple_text, simple_truth, simple_alive, simple_minus, simple_not, simple_binary, simple_name, simple_field, simple_entry)
+
+-- each kind of statement
+pub ruleset statements = (act_define, act_create, act_assign, act_update, act_delete, act_if, act_if_else, act_while, act_for_all, act_for_entries, act_print, act_yield, act_flush)

@@ -11,7 +11,7 @@ use cloud_base::{CellType, Memory, Name, Sequence};
 use source_tree::{Client, Declaration, Expression, Operation, Place, Program, Statement};
 use std::alloc::Global;
 
-#[tactic(auto, using(crate::proofs::Read::simple_number, crate::proofs::Read::simple_text, crate::proofs::Read::simple_truth, crate::proofs::Read::simple_alive, crate::proofs::Read::simple_name, crate::proofs::Read::simple_field, crate::proofs::Read::simple_entry, crate::proofs::Read::simple_minus, crate::proofs::Read::simple_not, crate::proofs::Read::simple_binary))]
+#[tactic(auto, using(crate::proofs::Read::expressions))]
 fn number(expression: &Expression) -> Option<u64>
     ensures { result ≡ (simple expression.now).number }
 {
@@ -39,7 +39,7 @@ fn of_63_bits(amount: Amount) -> Option<Amount>
 }
 
 // A number of 63 bits, with a minus before it or without.
-#[tactic(auto, using(crate::proofs::Read::simple_number, crate::proofs::Read::simple_text, crate::proofs::Read::simple_truth, crate::proofs::Read::simple_alive, crate::proofs::Read::simple_name, crate::proofs::Read::simple_field, crate::proofs::Read::simple_entry, crate::proofs::Read::simple_minus, crate::proofs::Read::simple_not, crate::proofs::Read::simple_binary))]
+#[tactic(auto, using(crate::proofs::Read::expressions))]
 fn amount_of(expression: &Expression) -> Option<Amount>
     ensures amount { result ≡ amount_of expression.now }
     ensures within { IfSome result (λ amount. amount.number < 2 ^ 63) }
@@ -57,7 +57,7 @@ fn amount_of(expression: &Expression) -> Option<Amount>
     of_63_bits(Amount { minus, number })
 }
 
-#[tactic(auto, using(crate::proofs::Read::simple_number, crate::proofs::Read::simple_text, crate::proofs::Read::simple_truth, crate::proofs::Read::simple_alive, crate::proofs::Read::simple_name, crate::proofs::Read::simple_field, crate::proofs::Read::simple_entry, crate::proofs::Read::simple_minus, crate::proofs::Read::simple_not, crate::proofs::Read::simple_binary))]
+#[tactic(auto, using(crate::proofs::Read::expressions))]
 fn name_of(place: &Place<Expression>) -> Option<&Name>
     ensures { option_map (λ name. name.now) result ≡ (simple (e.Place place.now)).name }
 {
@@ -68,7 +68,7 @@ fn name_of(place: &Place<Expression>) -> Option<&Name>
     }
 }
 
-#[tactic(auto, using(crate::proofs::Read::simple_number, crate::proofs::Read::simple_text, crate::proofs::Read::simple_truth, crate::proofs::Read::simple_alive, crate::proofs::Read::simple_name, crate::proofs::Read::simple_field, crate::proofs::Read::simple_entry, crate::proofs::Read::simple_minus, crate::proofs::Read::simple_not, crate::proofs::Read::simple_binary))]
+#[tactic(auto, using(crate::proofs::Read::expressions))]
 fn name_alone(expression: &Expression) -> Option<&Name>
     ensures { option_map (λ name. name.now) result ≡ (simple expression.now).name }
 {
@@ -141,7 +141,7 @@ fn print_of(globals: &[Name], argument: &Expression) -> Option<FirstAct>
     Some(FirstAct::Print(global))
 }
 
-#[tactic(auto, using(crate::proofs::Read::act_define, crate::proofs::Read::act_create, crate::proofs::Read::act_assign, crate::proofs::Read::act_update, crate::proofs::Read::act_delete, crate::proofs::Read::act_if, crate::proofs::Read::act_if_else, crate::proofs::Read::act_while, crate::proofs::Read::act_for_all, crate::proofs::Read::act_for_entries, crate::proofs::Read::act_print, crate::proofs::Read::act_yield, crate::proofs::Read::act_flush))]
+#[tactic(auto, using(crate::proofs::Read::statements))]
 fn act_of(globals: &[Name], statement: &Statement) -> Option<FirstAct>
     requires { length globals.now ≤ most_globals }
     ensures act { result ≡ act_of globals.now statement.now }
@@ -173,7 +173,8 @@ fn acts_of(
 ) -> Result<Option<Sequence<FirstAct>>, Memory>
     requires { length globals.now ≤ most_globals }
     ensures acts { IfOk result (λ found. found ≡ acts_of globals.now body.now) }
-    ensures fit { IfOk result (λ found. IfSome found (AllByRecursion (ActFits (length globals.now)))) }
+    ensures fit { IfOk result
+        (λ found. IfSome found (AllByRecursion (ActFits (length globals.now)))) }
 {
     let mut acts = Sequence::new(alloc);
     for statement in body {
@@ -216,8 +217,8 @@ fn globals_of(alloc: Global, declarations: &[Declaration]) -> Result<Option<Sequ
 }
 
 /// The first form of a program, where it is in that form: one client, no schedule, at most 256
-/// integer globals of different names, and statements that add a number to a global or set it to one,
-/// print a global, or yield.
+/// integer globals of different names, and statements that add a number to a global or set it to
+/// one, print a global, or yield.
 #[tactic(auto, unfolding(crate::specs::FirstForm::first_form))]
 pub fn first_form(alloc: Global, program: &Program) -> Result<Option<FirstProgram>, Memory>
     ensures { IfOk result (λ found. found ≡ first_form program.now) }
