@@ -4,7 +4,7 @@ use Rattle.std.specs.Prelude.{Some, None, map}
 use Rattle.cloud_base.specs.Shaped.{cell_type}
 use Rattle.cloud_base.specs.declared.schema.CellType.TheVariants.{Int}
 use Rattle.cloud_base.specs.declared.update.Update.{Update}
-use Rattle.cloud_parse.specs.Form.{Form}
+use Rattle.first_form.specs.FirstForm.{FirstForm}
 use Rattle.revision_diagram.specs.declared.step.Step.{Step}
 use Rattle.one_client.specs.Program.{global_property, schema_of}
 
@@ -14,7 +14,7 @@ int_by [] global = refl
 int_by (name ∷ names) zero = refl
 int_by (name ∷ names) (suc global) = int_by names global
 
-pub globals_are_ints : (f : Form) (global : ℕ) → cell_type (schema_of f) global ≡ Int
+pub globals_are_ints : (f : FirstForm) (global : ℕ) → cell_type (schema_of f) global ≡ Int
 globals_are_ints f global = int_by f.globals global
 
 -- one update more in a log of two parts

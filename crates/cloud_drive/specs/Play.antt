@@ -8,13 +8,13 @@ use Rattle.cloud_base.specs.PlainCell.{plain_value, plain_int}
 use Rattle.cloud_base.specs.declared.schema.Schema.{Schema}
 use Rattle.cloud_base.specs.declared.update.Answer.TheVariants.{Int}
 use Rattle.cloud_base.specs.declared.update.Update.{Update}
-use Rattle.cloud_parse.specs.declared.tree.Act.{Act}
-use Rattle.cloud_parse.specs.declared.tree.Act.TheVariants.{Change, Print, Yield}
-use Rattle.cloud_parse.specs.declared.tree.Amount.{Amount}
-use Rattle.cloud_parse.specs.declared.tree.Operation.TheVariants.{Add}
+use Rattle.first_form.specs.declared.form.FirstAct.{FirstAct}
+use Rattle.first_form.specs.declared.form.FirstAct.TheVariants.{Change, Print, Yield}
+use Rattle.first_form.specs.declared.form.Amount.{Amount}
+use Rattle.first_form.specs.declared.form.FirstOperation.TheVariants.{Add}
 use Rattle.revision_diagram.specs.declared.step.Step.{Step}
 use Rattle.revision_diagram.specs.declared.step.Step.TheVariants.{Fork, Join, Do, Ask, Say, Mark}
-use Rattle.cloud_parse.specs.Form.{Form}
+use Rattle.first_form.specs.FirstForm.{FirstForm}
 use Rattle.one_client.specs.Program.{global_property, schema_of, update_of, query_of, events_from}
 use Rattle.one_client.specs.Steps.{Run, yield_steps, after_yield, steps_from, steps_of}
 use Rattle.fj_core.specs.declared.int_cell.IntCell.{IntCell}
@@ -23,30 +23,30 @@ use Rattle.global_cells.specs.Cells.{CellsStand, changes_of}
 use Rattle.cloud_drive.specs.declared.player.Player.{Player}
 use Rattle.cloud_drive.specs.declared.player.Received.{Received}
 
-abbrev pub is_yield_act : Act → Bool
+abbrev pub is_yield_act : FirstAct → Bool
 is_yield_act (Change global operation amount) = false
 is_yield_act (Print global) = false
 is_yield_act Yield = true
 
 -- how many of the acts are yields
-abbrev pub yields_in : List Act → ℕ
+abbrev pub yields_in : List FirstAct → ℕ
 yields_in [] = 0
 yields_in (act ∷ acts) = if is_yield_act act then 1 + yields_in acts else yields_in acts
 
 -- the steps of one act after these updates; the flag says that a further yield comes
-abbrev pub act_steps : Schema → Run → List Update → Act → Bool → List Step
+abbrev pub act_steps : Schema → Run → List Update → FirstAct → Bool → List Step
 act_steps schema run log (Change global operation amount) further = Do run.standing (update_of global operation amount) ∷ []
 act_steps schema run log (Print global) further =
     Ask run.standing (query_of global) (answer schema log (query_of global)) ∷ Say run.standing (answer schema log (query_of global)) ∷ []
 act_steps schema run log Yield further = yield_steps run further
 
-abbrev pub after_act : Run → Act → Bool → Run
+abbrev pub after_act : Run → FirstAct → Bool → Run
 after_act run (Change global operation amount) further = run
 after_act run (Print global) further = run
 after_act run Yield further = after_yield run further
 
 -- the updates with that of an act
-abbrev pub log_after : List Update → Act → List Update
+abbrev pub log_after : List Update → FirstAct → List Update
 log_after log (Change global operation amount) = log ++ update_of global operation amount ∷ []
 log_after log (Print global) = log
 log_after log Yield = log
@@ -65,16 +65,16 @@ pub record Follows (player : Player) (run : Run) (log : List Update) : Type 0 wh
   pub waiting : IfSome player.received (λ r. CellsStand r.globals pushed [])
 
 -- it follows the run after the act, and has the act's steps behind those that it had
-abbrev pub Did : Player → Player → Form → Run → List Update → Act → Bool → Type 0
+abbrev pub Did : Player → Player → FirstForm → Run → List Update → FirstAct → Bool → Type 0
 Did player after f run log act further =
     Follows after (after_act run act further) (log_after log act) × (after.steps ≡ player.steps ++ act_steps (schema_of f) run log act further)
 
 -- so where it followed a run of any globals before
-abbrev pub Acts : Player → Player → Act → Bool → Type 0
-Acts player after act further = (f : Form) (run : Run) (log : List Update) → Follows player run log → Did player after f run log act further
+abbrev pub Acts : Player → Player → FirstAct → Bool → Type 0
+Acts player after act further = (f : FirstForm) (run : Run) (log : List Update) → Follows player run log → Did player after f run log act further
 
 -- it follows a run, and its steps with those of the acts that are left are the steps of all
-pub record Continues (player : Player) (f : Form) (left all : List Act) : Type 0 where
+pub record Continues (player : Player) (f : FirstForm) (left all : List FirstAct) : Type 0 where
   pub run : Run
   pub log : List Update
   pub follows : Follows player run log

@@ -4,7 +4,7 @@ ghost use Rattle.std.specs.Option.{ForSome};
 ghost use Rattle.cloud_base.specs.declared.update.Query.TheVariants.{Get};
 ghost use Rattle.cloud_base.specs.declared.update.Update.{Update};
 ghost use Rattle.cloud_base.specs.declared.update.Update.TheVariants.{Cell};
-ghost use Rattle.cloud_parse.specs.Form.{ActFits};
+ghost use Rattle.first_form.specs.FirstForm.{ActFits};
 ghost use Rattle.revision_diagram.specs.declared.step.Step.TheVariants.{Fork};
 ghost use Rattle.one_client.specs.Program.{change_of};
 ghost use Rattle.one_client.specs.Steps.{first_run, pull};
@@ -14,7 +14,7 @@ ghost use Rattle.cloud_drive.specs.Play.{Follows, Acts};
 
 use crate::player::{Player, Received};
 use cloud_base::{Answer, CellChange, Keys, Memory, Query, Sequence, Update};
-use cloud_parse::{Act, Amount, Operation};
+use first_form::{Amount, FirstAct, FirstOperation};
 use fj_core::IntChange;
 use global_cells::{Globals, answers_are_plain};
 use revision_diagram::{Step, StepList};
@@ -41,13 +41,13 @@ pub fn start(alloc: Global, count: usize) -> Result<Player, Memory>
     })
 }
 
-fn int_change(operation: Operation, amount: Amount) -> IntChange
+fn int_change(operation: FirstOperation, amount: Amount) -> IntChange
     requires { amount.number < 2 ^ 63 }
     ensures { of_int result ≡ change_of operation amount }
 {
     match operation {
-        Operation::Add => IntChange::Add(amount.value()),
-        Operation::Set => IntChange::Set(amount.value()),
+        FirstOperation::Add => IntChange::Add(amount.value()),
+        FirstOperation::Set => IntChange::Set(amount.value()),
     }
 }
 
@@ -69,12 +69,12 @@ fn query_of(global: u16) -> Query
 fn change(
     player: Player,
     global: u16,
-    operation: Operation,
+    operation: FirstOperation,
     amount: Amount,
 ) -> Result<Player, Memory>
-    requires fits { ActFits (length player.current) (Act.Change global operation amount) }
+    requires fits { ActFits (length player.current) (FirstAct.Change global operation amount) }
     ensures run { IfOk result (λ after.
-        Acts player after (Act.Change global operation amount) false) }
+        Acts player after (FirstAct.Change global operation amount) false) }
     ensures count { IfOk result (λ after. length after.current ≡ length player.current) }
     ensures next { IfOk result (λ after. after.next ≡ player.next) }
 {
@@ -101,7 +101,7 @@ fn change(
 
 fn print(player: Player, global: u16) -> Result<Player, Memory>
     requires { global < length player.current }
-    ensures run { IfOk result (λ after. Acts player after (Act.Print global) false) }
+    ensures run { IfOk result (λ after. Acts player after (FirstAct.Print global) false) }
     ensures count { IfOk result (λ after. length after.current ≡ length player.current) }
     ensures next { IfOk result (λ after. after.next ≡ player.next) }
 {
@@ -197,7 +197,7 @@ fn next_after(next: u32, further: bool) -> u32
 
 fn meet(alloc: Global, player: Player, further: bool) -> Result<Player, Memory>
     requires { player.next + 2 < 2 ^ 32 }
-    ensures run { IfOk result (λ after. Acts player after Act.Yield further) }
+    ensures run { IfOk result (λ after. Acts player after FirstAct.Yield further) }
     ensures count { IfOk result (λ after. length after.current ≡ length player.current) }
     ensures next { IfOk result (λ after. after.next ≤ player.next + 2) }
 {
@@ -227,7 +227,7 @@ fn meet(alloc: Global, player: Player, further: bool) -> Result<Player, Memory>
 }
 
 /// One act. The flag says that a further yield comes.
-pub fn act(alloc: Global, player: Player, act: Act, further: bool) -> Result<Player, Memory>
+pub fn act(alloc: Global, player: Player, act: FirstAct, further: bool) -> Result<Player, Memory>
     requires fits { ActFits (length player.current) act }
     requires room { player.next + 2 < 2 ^ 32 }
     ensures run { IfOk result (λ after. Acts player after act further) }
@@ -235,8 +235,8 @@ pub fn act(alloc: Global, player: Player, act: Act, further: bool) -> Result<Pla
     ensures next { IfOk result (λ after. after.next ≤ player.next + 2) }
 {
     match act {
-        Act::Change(global, operation, amount) => change(player, global, operation, amount),
-        Act::Print(global) => print(player, global),
-        Act::Yield => meet(alloc, player, further),
+        FirstAct::Change(global, operation, amount) => change(player, global, operation, amount),
+        FirstAct::Print(global) => print(player, global),
+        FirstAct::Yield => meet(alloc, player, further),
     }
 }

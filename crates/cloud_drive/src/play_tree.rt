@@ -1,14 +1,14 @@
-// Playing a tree: its steps and its report.
+// Playing a program: its steps and its report.
 ghost use Rattle.std.specs.Prelude.{◌≡◌, ◌-◌, ◌≤◌, [], length, if◌then◌else◌, IfOk};
 ghost use Rattle.std.specs.List.{AllByRecursion};
-ghost use Rattle.cloud_parse.specs.Form.{Form, ActFits};
+ghost use Rattle.first_form.specs.FirstForm.{FirstForm, ActFits};
 ghost use Rattle.one_client.specs.Program.{budget, cost, begun, end_of, schema_of, events_from, events_of, report_of};
 ghost use Rattle.one_client.specs.Steps.{steps_of};
 ghost use Rattle.cloud_drive.specs.Play.{is_yield_act, yields_in};
 
 use crate::act::{act, start};
 use cloud_base::{CellType, End, Memory, Owner, Property, Schema, Sequence};
-use cloud_parse::{Act, Tree};
+use first_form::{FirstAct, FirstProgram};
 use revision_diagram::StepList;
 use std::alloc::Global;
 use std::slice;
@@ -18,18 +18,18 @@ use step_text::lines;
 pub const BUDGET: u32 = 16_384;
 
 // The turns that an act takes: a statement takes one, and a query one more.
-fn cost(act: Act) -> u32
+fn cost(act: FirstAct) -> u32
     ensures { result ≡ cost act }
 {
     match act {
-        Act::Print(_) => 2,
-        Act::Change(_, _, _) | Act::Yield => 1,
+        FirstAct::Print(_) => 2,
+        FirstAct::Change(_, _, _) | FirstAct::Yield => 1,
     }
 }
 
 // The acts that begin: one that is to begin where no turn is left ends the run.
 #[tactic(auto, using(crate::proofs::Begun::begun_out))]
-fn begun(acts: &[Act]) -> &[Act]
+fn begun(acts: &[FirstAct]) -> &[FirstAct]
     ensures { result.now ≡ begun budget acts.now }
 {
     let mut turns = BUDGET;
@@ -42,23 +42,23 @@ fn begun(acts: &[Act]) -> &[Act]
     acts
 }
 
-fn is_yield(act: Act) -> bool
+fn is_yield(act: FirstAct) -> bool
     ensures { result ≡ is_yield_act act }
 {
     match act {
-        Act::Yield => true,
-        Act::Change(_, _, _) | Act::Print(_) => false,
+        FirstAct::Yield => true,
+        FirstAct::Change(_, _, _) | FirstAct::Print(_) => false,
     }
 }
 
-fn count_yields(acts: &[Act]) -> usize
+fn count_yields(acts: &[FirstAct]) -> usize
     ensures { result ≡ yields_in acts.now }
 {
     acts.iter().filter(|act| is_yield(**act)).count()
 }
 
 // The yields that are left after an act.
-fn left_after(yields: usize, act: Act) -> usize
+fn left_after(yields: usize, act: FirstAct) -> usize
     ensures { result ≡ (if is_yield_act act then yields - 1 else yields) }
 {
     if is_yield(act) {
@@ -69,11 +69,11 @@ fn left_after(yields: usize, act: Act) -> usize
 }
 
 // Each global is a property with integer cells and no keys.
-fn schema_of(alloc: Global, tree: &Tree) -> Result<Schema, Memory>
-    ensures { IfOk result (λ schema. schema ≡ schema_of tree.now) }
+fn schema_of(alloc: Global, program: &FirstProgram) -> Result<Schema, Memory>
+    ensures { IfOk result (λ schema. schema ≡ schema_of program.now) }
 {
     let mut properties = Sequence::new(alloc);
-    for global in tree.globals() {
+    for global in program.globals() {
         properties.push(Property {
             name: global.copy(alloc)?,
             owner: Owner::Global,
@@ -88,10 +88,10 @@ fn schema_of(alloc: Global, tree: &Tree) -> Result<Schema, Memory>
 }
 
 // The steps of acts over `count` globals.
-fn play_acts(alloc: Global, count: usize, acts: &[Act]) -> Result<StepList, Memory>
+fn play_acts(alloc: Global, count: usize, acts: &[FirstAct]) -> Result<StepList, Memory>
     requires few { length acts.now ≤ budget }
     requires fit { AllByRecursion (ActFits count) acts.now }
-    ensures { IfOk result (λ steps. (f : Form)
+    ensures { IfOk result (λ steps. (f : FirstForm)
         → steps ≡ steps_of (events_from (schema_of f) [] acts.now)) }
 {
     let mut player = start(alloc, count)?;
@@ -103,36 +103,36 @@ fn play_acts(alloc: Global, count: usize, acts: &[Act]) -> Result<StepList, Memo
     Ok(player.steps)
 }
 
-/// The steps of the run of a tree.
+/// The steps of the run of a program.
 #[tactic(auto, using(crate::proofs::Begun::begun_few, crate::proofs::Begun::begun_fit))]
-pub fn steps(alloc: Global, tree: &Tree) -> Result<StepList, Memory>
-    ensures { IfOk result (λ steps. steps ≡ steps_of (events_of tree.now)) }
+pub fn steps(alloc: Global, program: &FirstProgram) -> Result<StepList, Memory>
+    ensures { IfOk result (λ steps. steps ≡ steps_of (events_of program.now)) }
 {
-    play_acts(alloc, tree.globals().len(), begun(tree.acts()))
+    play_acts(alloc, program.globals().len(), begun(program.acts()))
 }
 
-// How the run of a tree ends.
-fn end_of(tree: &Tree) -> End
-    ensures { result ≡ end_of tree.now }
+// How the run of a program ends.
+fn end_of(program: &FirstProgram) -> End
+    ensures { result ≡ end_of program.now }
 {
-    if begun(tree.acts()).len() == tree.acts().len() {
+    if begun(program.acts()).len() == program.acts().len() {
         End::Done
     } else {
         End::Spent
     }
 }
 
-/// The report of the run of a tree.
-pub fn play(alloc: Global, tree: &Tree) -> Result<Vec<u8>, Memory>
-    ensures { IfOk result (λ text. text.items ≡ report_of tree.now) }
+/// The report of the run of a program.
+pub fn play(alloc: Global, program: &FirstProgram) -> Result<Vec<u8>, Memory>
+    ensures { IfOk result (λ text. text.items ≡ report_of program.now) }
 {
-    let schema = schema_of(alloc, tree)?;
-    let steps = steps(alloc, tree)?;
-    let end = end_of(tree);
+    let schema = schema_of(alloc, program)?;
+    let steps = steps(alloc, program)?;
+    let end = end_of(program);
     lines(
         alloc,
         &schema,
-        slice::from_ref(tree.client()),
+        slice::from_ref(program.client()),
         steps.as_slice(),
         slice::from_ref(&end),
     )

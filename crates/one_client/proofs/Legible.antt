@@ -22,12 +22,13 @@ use Rattle.cloud_base.specs.declared.update.CellChange.{CellChange}
 use Rattle.cloud_base.specs.declared.update.Event.{Event}
 use Rattle.cloud_base.specs.declared.update.Event.TheVariants as event
 use Rattle.cloud_base.specs.declared.update.Update.{Update}
-use Rattle.cloud_parse.specs.declared.tree.Act.{Act}
-use Rattle.cloud_parse.specs.declared.tree.Act.TheVariants.{Change, Print, Yield}
-use Rattle.cloud_parse.specs.declared.tree.Amount.{Amount}
-use Rattle.cloud_parse.specs.declared.tree.Operation.{Operation}
-use Rattle.cloud_parse.specs.declared.tree.Operation.TheVariants.{Add, Set}
-use Rattle.cloud_parse.specs.Form.{Form, IsForm, ActFits, AllDifferent, place_of, amount_value}
+use Rattle.first_form.specs.declared.form.FirstAct.{FirstAct}
+use Rattle.first_form.specs.declared.form.FirstAct.TheVariants.{Change, Print, Yield}
+use Rattle.first_form.specs.declared.form.Amount.{Amount}
+use Rattle.first_form.specs.declared.form.FirstOperation.{FirstOperation}
+use Rattle.first_form.specs.declared.form.FirstOperation.TheVariants.{Add, Set}
+use Rattle.source_tokens.specs.Terminals.{IsIdentifier}
+use Rattle.first_form.specs.FirstForm.{FirstForm, IsFirstForm, ActFits, AllDifferent, place_of, amount_value}
 use Rattle.revision_diagram.specs.declared.step.Step.{Step}
 use Rattle.revision_diagram.specs.declared.step.Step.TheVariants.{Fork}
 use Rattle.step_text.specs.Cells.{property_of}
@@ -66,23 +67,23 @@ global_text schema [] n lt = absurd (omega arith)
 global_text schema (g ∷ gs) zero lt = refl
 global_text schema (g ∷ gs) (suc n) lt = global_text schema gs n (omega arith)
 
-globals_are : (schema : Schema) (gs : List (List ℕ)) → AllByRecursion IsName gs → All (IsProperty schema) (map global_property gs)
+globals_are : (schema : Schema) (gs : List (List ℕ)) → AllByRecursion IsIdentifier gs → All (IsProperty schema) (map global_property gs)
 globals_are schema [] h = All-nil (IsProperty schema)
-globals_are schema (g ∷ gs) h = All-cons (IsProperty schema) (global_property g) (map global_property gs) (h.0, refl) (globals_are schema gs h.1)
+globals_are schema (g ∷ gs) h = All-cons (IsProperty schema) (global_property g) (map global_property gs) (h.0.0, refl) (globals_are schema gs h.1)
 
 map_length : (gs : List (List ℕ)) → length (map global_property gs) ≡ length gs
 map_length [] = refl
 map_length (g ∷ gs) = ap suc (map_length gs)
 
-legible : (f : Form) → IsForm f → Legible (schema_of f) (f.client ∷ [])
+legible : (f : FirstForm) → IsFirstForm f → Legible (schema_of f) (f.client ∷ [])
 legible f h = record {
-  properties = globals_are (schema_of f) f.globals h.names;
+  properties = globals_are (schema_of f) f.globals h.globals.names;
   entities = All-nil _;
-  clients = All-cons IsName f.client [] h.client (All-nil IsName);
+  clients = All-cons IsName f.client [] h.client.0 (All-nil IsName);
   properties_differ = λ a b la lb same.
       let low = subst (λ n. a < n) (map_length f.globals) la in
       let high = subst (λ n. b < n) (map_length f.globals) lb in
-      names_differ f.globals h.different a b low high (sym (global_text (schema_of f) f.globals a low) ∙ same ∙ global_text (schema_of f) f.globals b high);
+      names_differ f.globals h.globals.different a b low high (sym (global_text (schema_of f) f.globals a low) ∙ same ∙ global_text (schema_of f) f.globals b high);
   entities_differ = λ a b la lb same. absurd (omega arith);
   clients_differ = λ a b la lb same. omega arith;
 }
@@ -94,17 +95,17 @@ record Room (run : Run) (n : ℕ) : Type 0 where
   received : IfSome run.received (λ r. r + 2 * n < 2 ^ 32)
   next : run.next + 2 * n < 2 ^ 32
 
-costs : (act : Act) → 1 ≤ cost act
+costs : (act : FirstAct) → 1 ≤ cost act
 costs (Change global operation amount) = omega arith
 costs (Print global) = omega arith
 costs Yield = omega arith
 
-begun_few : (turns : ℕ) (acts : List Act) → length (begun turns acts) ≤ turns
+begun_few : (turns : ℕ) (acts : List FirstAct) → length (begun turns acts) ≤ turns
 begun_few turns [] = omega arith
 begun_few zero (act ∷ acts) = omega arith
 begun_few (suc turns) (act ∷ acts) = omega (arith, begun_few (suc turns - cost act) acts, costs act)
 
-begun_fit : (n turns : ℕ) (acts : List Act) → AllByRecursion (ActFits n) acts → AllByRecursion (ActFits n) (begun turns acts)
+begun_fit : (n turns : ℕ) (acts : List FirstAct) → AllByRecursion (ActFits n) acts → AllByRecursion (ActFits n) (begun turns acts)
 begun_fit n turns [] h = tt
 begun_fit n zero (act ∷ acts) h = tt
 begun_fit n (suc turns) (act ∷ acts) h = (h.0, begun_fit n (suc turns - cost act) acts h.1)
@@ -126,20 +127,20 @@ global_at [] g lt = absurd (omega arith)
 global_at (name ∷ gs) zero lt = refl
 global_at (name ∷ gs) (suc g) lt = global_at gs g (omega arith)
 
-cell_is : (f : Form) → IsForm f → (g : ℕ) → g < length f.globals → IsCell (schema_of f) g []
-cell_is f h g lt = (omega (arith, h.few), subst (λ found. MatchOption found ⊥ (λ p. AreKeys p.keys [])) (sym (global_at f.globals g lt)) (omega arith, tt))
+cell_is : (f : FirstForm) → IsFirstForm f → (g : ℕ) → g < length f.globals → IsCell (schema_of f) g []
+cell_is f h g lt = (omega (arith, h.globals.few), subst (λ found. MatchOption found ⊥ (λ p. AreKeys p.keys [])) (sym (global_at f.globals g lt)) (omega arith, tt))
 
-type_is : (f : Form) (g : ℕ) → g < length f.globals → cell_type (schema_of f) g ≡ IntCell
+type_is : (f : FirstForm) (g : ℕ) → g < length f.globals → cell_type (schema_of f) g ≡ IntCell
 type_is f g lt = ap (λ found. option_map_or (λ (p : Property). p.cell) found IntCell) (global_at f.globals g lt)
 
-change_is : (operation : Operation) (a : Amount) → a.number < 2 ^ 63 → IsChange IntCell (change_of operation a)
+change_is : (operation : FirstOperation) (a : Amount) → a.number < 2 ^ 63 → IsChange IntCell (change_of operation a)
 change_is Add a h = amount_fits a h
 change_is Set a h = amount_fits a h
 
-update_is : (f : Form) → IsForm f → (g : ℕ) (operation : Operation) (a : Amount) → g < length f.globals → a.number < 2 ^ 63 → IsShaped (schema_of f) (update_of g operation a)
+update_is : (f : FirstForm) → IsFirstForm f → (g : ℕ) (operation : FirstOperation) (a : Amount) → g < length f.globals → a.number < 2 ^ 63 → IsShaped (schema_of f) (update_of g operation a)
 update_is f h g operation a lt few = (cell_is f h g lt, subst (λ type. IsChange type (change_of operation a)) (sym (type_is f g lt)) (change_is operation a few))
 
-answer_is : (f : Form) (log : List Update) (g : ℕ) → g < length f.globals → answer (schema_of f) log (query_of g) ≡ Int (plain_int (of_cell g [] log))
+answer_is : (f : FirstForm) (log : List Update) (g : ℕ) → g < length f.globals → answer (schema_of f) log (query_of g) ≡ Int (plain_int (of_cell g [] log))
 unfolding answer plain_value
 answer_is f log g lt = ap (λ type. plain_value type (of_cell g [] log)) (type_is f g lt)
 
@@ -191,26 +192,26 @@ module _ (schema : Schema) (names : List (List ℕ)) (some : 0 < length names) w
   steps_fit run (event.Flush ∷ events) room fit = (omega (arith, room.standing), steps_fit run events (room_left run (length events) room) fit.1)
 
 -- ---- events
-module _ (fits : (changes : List CellChange) → FitsSigned w64 (plain_int changes)) (f : Form) (h : IsForm f) where
+module _ (fits : (changes : List CellChange) → FitsSigned w64 (plain_int changes)) (f : FirstForm) (h : IsFirstForm f) where
   asked : (log : List Update) (g : ℕ) → g < length f.globals → IsShapedAnswer (schema_of f) (query_of g) (answer (schema_of f) log (query_of g))
   asked log g lt = subst (λ type. IsValue type (answer (schema_of f) log (query_of g))) (sym (type_is f g lt)) (subst (IsValue IntCell) (sym (answer_is f log g lt)) (fits (of_cell g [] log)))
 
   said : (log : List Update) (g : ℕ) → g < length f.globals → IsSaid (answer (schema_of f) log (query_of g))
   said log g lt = subst IsSaid (sym (answer_is f log g lt)) (fits (of_cell g [] log))
 
-  events_fit : (log : List Update) (acts : List Act) → AllByRecursion (ActFits (length f.globals)) acts → AllByRecursion (IsShapedEvent (schema_of f)) (events_from (schema_of f) log acts)
+  events_fit : (log : List Update) (acts : List FirstAct) → AllByRecursion (ActFits (length f.globals)) acts → AllByRecursion (IsShapedEvent (schema_of f)) (events_from (schema_of f) log acts)
   events_fit log [] fit = tt
   events_fit log (Change g operation amount ∷ acts) fit = (update_is f h g operation amount fit.0.0 fit.0.1, events_fit (log ++ update_of g operation amount ∷ []) acts fit.1)
   events_fit log (Print g ∷ acts) fit = ((cell_is f h g fit.0, asked log g fit.0), (said log g fit.0, events_fit log acts fit.1))
   events_fit log (Yield ∷ acts) fit = (tt, events_fit log acts fit.1)
 
-events_few : (schema : Schema) (log : List Update) (acts : List Act) → length (events_from schema log acts) ≤ 2 * length acts
+events_few : (schema : Schema) (log : List Update) (acts : List FirstAct) → length (events_from schema log acts) ≤ 2 * length acts
 events_few schema log [] = omega arith
 events_few schema log (Change g operation amount ∷ acts) = omega (arith, events_few schema (log ++ update_of g operation amount ∷ []) acts)
 events_few schema log (Print g ∷ acts) = omega (arith, events_few schema log acts)
 events_few schema log (Yield ∷ acts) = omega (arith, events_few schema log acts)
 
-end_fits : (turns : ℕ) (acts : List Act) → IsEnd (end_from turns acts)
+end_fits : (turns : ℕ) (acts : List FirstAct) → IsEnd (end_from turns acts)
 end_fits turns [] = tt
 end_fits zero (act ∷ acts) = tt
 end_fits (suc turns) (act ∷ acts) = end_fits (suc turns - cost act) acts
@@ -227,9 +228,9 @@ events_tell tells schema names events ends h some shaped few is_end =
 
 pub run_tells : ((changes : List CellChange) → FitsSigned w64 (plain_int changes))
     → ((schema : Schema) (names : List (List ℕ)) (events : List Event) (ends : List End) → Legible schema names → 0 < length names → All (IsShapedEvent schema) events → 2 * length events + 2 < 2 ^ 32 → All IsEnd ends → Told schema names (steps_of events) ends)
-    → (f : Form) → IsForm f → Told (schema_of f) (f.client ∷ []) (steps_of (events_of f)) (end_of f ∷ [])
+    → (f : FirstForm) → IsFirstForm f → Told (schema_of f) (f.client ∷ []) (steps_of (events_of f)) (end_of f ∷ [])
 run_tells fits tells f h =
-    let acts : List Act = begun budget f.acts in
+    let acts : List FirstAct = begun budget f.acts in
     let few : length (begun budget f.acts) ≤ budget = begun_few budget f.acts in
     let events : length (events_of f) ≤ 2 * length (begun budget f.acts) = events_few (schema_of f) [] acts in
     let shaped : All (IsShapedEvent (schema_of f)) (events_of f) = All-from_recursion (IsShapedEvent (schema_of f)) (events_of f) (events_fit fits f h [] acts (begun_fit (length f.globals) budget f.acts h.acts)) in

@@ -8,9 +8,9 @@ use Rattle.cloud_base.specs.declared.update.Update.{Update}
 use Rattle.cloud_base.specs.declared.update.Answer.{Answer}
 use Rattle.cloud_base.specs.declared.update.Event.{Event}
 use Rattle.cloud_base.specs.declared.update.Event.TheVariants.{Do as DoEvent, Ask as AskEvent, Say as SayEvent, Yield as YieldEvent, Flush as FlushEvent}
-use Rattle.cloud_parse.specs.declared.tree.Act.{Act}
-use Rattle.cloud_parse.specs.declared.tree.Act.TheVariants.{Change, Print, Yield}
-use Rattle.cloud_parse.specs.Form.{Form}
+use Rattle.first_form.specs.declared.form.FirstAct.{FirstAct}
+use Rattle.first_form.specs.declared.form.FirstAct.TheVariants.{Change, Print, Yield}
+use Rattle.first_form.specs.FirstForm.{FirstForm}
 use Rattle.revision_diagram.specs.declared.step.Step.{Step}
 use Rattle.revision_diagram.specs.declared.step.Step.TheVariants.{Fork, Join, Do, Ask, Say, Mark}
 use Rattle.revision_diagram.specs.Diagram.{diagram}
@@ -145,13 +145,13 @@ headline laws schema events trace end no_flush right tells =
     }
 
 -- ---- the events of a program
-pub events_right : (schema : Schema) (log : List Update) (acts : List Act) → RightEvents schema log (events_from schema log acts)
+pub events_right : (schema : Schema) (log : List Update) (acts : List FirstAct) → RightEvents schema log (events_from schema log acts)
 events_right schema log [] = tt
 events_right schema log (Change global operation amount ∷ acts) = events_right schema (log ++ update_of global operation amount ∷ []) acts
 events_right schema log (Print global ∷ acts) = (refl, events_right schema log acts)
 events_right schema log (Yield ∷ acts) = events_right schema log acts
 
-pub events_no_flush : (schema : Schema) (log : List Update) (acts : List Act) → HasNoFlush (events_from schema log acts)
+pub events_no_flush : (schema : Schema) (log : List Update) (acts : List FirstAct) → HasNoFlush (events_from schema log acts)
 events_no_flush schema log [] = tt
 events_no_flush schema log (Change global operation amount ∷ acts) = events_no_flush schema (log ++ update_of global operation amount ∷ []) acts
 events_no_flush schema log (Print global ∷ acts) = events_no_flush schema log acts
@@ -159,6 +159,6 @@ events_no_flush schema log (Yield ∷ acts) = events_no_flush schema log acts
 
 -- what holds of all events holds of a program's
 pub program_headline : ((schema : Schema) (events : List Event) (trace : List Answer → List Event × Outcome) (end : End) → HasNoFlush events → RightEvents schema [] events → trace (answers_in events) ≡ (events, ended end) → Headline schema below_server (trace ∷ []) (end ∷ []) (steps_of events))
-    → (f : Form) → Headline (schema_of f) below_server (trace f ∷ []) (end_of f ∷ []) (steps_of (events_of f))
+    → (f : FirstForm) → Headline (schema_of f) below_server (trace f ∷ []) (end_of f ∷ []) (steps_of (events_of f))
 program_headline law f = law (schema_of f) (events_of f) (trace f) (end_of f)
     (events_no_flush (schema_of f) [] (begun budget f.acts)) (events_right (schema_of f) [] (begun budget f.acts)) (told_is_trace (schema_of f) [] budget f.acts)

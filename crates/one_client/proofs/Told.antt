@@ -7,18 +7,18 @@ use Rattle.cloud_base.specs.declared.update.Answer.{Answer}
 use Rattle.cloud_base.specs.declared.update.Event.{Event}
 use Rattle.cloud_base.specs.declared.update.Event.TheVariants.{Do, Ask, Say, Yield as YieldEvent}
 use Rattle.cloud_base.specs.declared.update.Update.{Update}
-use Rattle.cloud_parse.specs.declared.tree.Act.{Act}
-use Rattle.cloud_parse.specs.declared.tree.Act.TheVariants.{Change, Print, Yield}
+use Rattle.first_form.specs.declared.form.FirstAct.{FirstAct}
+use Rattle.first_form.specs.declared.form.FirstAct.TheVariants.{Change, Print, Yield}
 use Rattle.one_client.specs.Program.{update_of, query_of, then_trace, trace_from, begun, end_from, events_from}
 
 -- the events are those of the trace, where the acts that begin are those of n turns
-abbrev TellsTrace : Schema → List Update → ℕ → ℕ → List Act → Type 0
+abbrev TellsTrace : Schema → List Update → ℕ → ℕ → List FirstAct → Type 0
 TellsTrace schema log turns n acts = trace_from turns acts (answers_in (events_from schema log (begun n acts))) ≡ (events_from schema log (begun n acts), ended (end_from n acts))
 
-turns_left : (schema : Schema) (log : List Update) (turns n : ℕ) (acts : List Act) → n ≡ turns → TellsTrace schema log turns turns acts → TellsTrace schema log turns n acts
+turns_left : (schema : Schema) (log : List Update) (turns n : ℕ) (acts : List FirstAct) → n ≡ turns → TellsTrace schema log turns turns acts → TellsTrace schema log turns n acts
 turns_left schema log turns n acts e h = subst (λ (m : ℕ). TellsTrace schema log turns m acts) (sym e) h
 
-pub told_is_trace : (schema : Schema) (log : List Update) (turns : ℕ) (acts : List Act) → TellsTrace schema log turns turns acts
+pub told_is_trace : (schema : Schema) (log : List Update) (turns : ℕ) (acts : List FirstAct) → TellsTrace schema log turns turns acts
 told_is_trace schema log turns [] = refl
 told_is_trace schema log zero (act ∷ acts) = refl
 told_is_trace schema log (suc turns) (Change global operation amount ∷ acts) =

@@ -22,12 +22,12 @@ use Rattle.cloud_base.specs.declared.update.Query.{Query}
 use Rattle.cloud_base.specs.declared.update.Query.TheVariants.{Get}
 use Rattle.cloud_base.specs.declared.update.Update.{Update}
 use Rattle.cloud_base.specs.declared.update.Update.TheVariants.{Cell}
-use Rattle.cloud_parse.specs.declared.tree.Act.{Act}
-use Rattle.cloud_parse.specs.declared.tree.Act.TheVariants.{Change, Print, Yield}
-use Rattle.cloud_parse.specs.declared.tree.Amount.{Amount}
-use Rattle.cloud_parse.specs.declared.tree.Operation.{Operation}
-use Rattle.cloud_parse.specs.declared.tree.Operation.TheVariants.{Add, Set}
-use Rattle.cloud_parse.specs.Form.{Form, amount_value}
+use Rattle.first_form.specs.declared.form.FirstAct.{FirstAct}
+use Rattle.first_form.specs.declared.form.FirstAct.TheVariants.{Change, Print, Yield}
+use Rattle.first_form.specs.declared.form.Amount.{Amount}
+use Rattle.first_form.specs.declared.form.FirstOperation.{FirstOperation}
+use Rattle.first_form.specs.declared.form.FirstOperation.TheVariants.{Add, Set}
+use Rattle.first_form.specs.FirstForm.{FirstForm, amount_value}
 use Rattle.step_text.specs.Text.{report_text}
 use Rattle.one_client.specs.Steps.{steps_of}
 
@@ -35,25 +35,25 @@ use Rattle.one_client.specs.Steps.{steps_of}
 abbrev pub global_property : List ℕ → Property
 global_property name = record { name = name; owner = Global; cell = IntCell; keys = [] }
 
-abbrev pub schema_of : Form → Schema
+abbrev pub schema_of : FirstForm → Schema
 schema_of f = record { properties = map global_property f.globals; entities = [] }
 
 -- the turns that a client has
 abbrev pub budget : ℕ
 budget = 16384
 
-abbrev pub change_of : Operation → Amount → CellChange
+abbrev pub change_of : FirstOperation → Amount → CellChange
 change_of Add a = AddChange (amount_value a)
 change_of Set a = SetInt (amount_value a)
 
-abbrev pub update_of : ℕ → Operation → Amount → Update
+abbrev pub update_of : ℕ → FirstOperation → Amount → Update
 update_of global operation amount = Cell global [] (change_of operation amount)
 
 abbrev pub query_of : ℕ → Query
 query_of global = Get global []
 
 -- the turns that an act takes: a statement takes one, and a query one more
-abbrev pub cost : Act → ℕ
+abbrev pub cost : FirstAct → ℕ
 cost (Change global operation amount) = 1
 cost (Print global) = 2
 cost Yield = 1
@@ -62,7 +62,7 @@ abbrev pub then_trace : Event → List Event × Outcome → List Event × Outcom
 then_trace event trace = (event ∷ trace.0, trace.1)
 
 -- what the acts do with so many turns, for the answers that are given, one for each query in order
-abbrev pub trace_from : ℕ → List Act → List Answer → List Event × Outcome
+abbrev pub trace_from : ℕ → List FirstAct → List Answer → List Event × Outcome
 trace_from turns [] answers = ([], ended Done)
 trace_from zero (act ∷ acts) answers = ([], ended Spent)
 trace_from (suc turns) (Change global operation amount ∷ acts) answers = then_trace (Do (update_of global operation amount)) (trace_from turns acts answers)
@@ -71,36 +71,36 @@ trace_from (suc turns) (Print global ∷ acts) (answer ∷ answers) = then_trace
 trace_from (suc turns) (Yield ∷ acts) answers = then_trace YieldEvent (trace_from turns acts answers)
 
 -- the client's trace
-abbrev pub trace : Form → List Answer → List Event × Outcome
+abbrev pub trace : FirstForm → List Answer → List Event × Outcome
 trace f answers = trace_from budget f.acts answers
 
 -- the acts that begin: one that is to begin where no turn is left ends the run
-abbrev pub begun : ℕ → List Act → List Act
+abbrev pub begun : ℕ → List FirstAct → List FirstAct
 begun turns [] = []
 begun zero (act ∷ acts) = []
 begun (suc turns) (act ∷ acts) = act ∷ begun (suc turns - cost act) acts
 
-abbrev pub end_from : ℕ → List Act → End
+abbrev pub end_from : ℕ → List FirstAct → End
 end_from turns [] = Done
 end_from zero (act ∷ acts) = Spent
 end_from (suc turns) (act ∷ acts) = end_from (suc turns - cost act) acts
 
-abbrev pub end_of : Form → End
+abbrev pub end_of : FirstForm → End
 end_of f = end_from budget f.acts
 
 -- the events of the acts, each query answered as the updates so far answer it
-abbrev pub events_from : Schema → List Update → List Act → List Event
+abbrev pub events_from : Schema → List Update → List FirstAct → List Event
 events_from schema log [] = []
 events_from schema log (Change global operation amount ∷ acts) = Do (update_of global operation amount) ∷ events_from schema (log ++ update_of global operation amount ∷ []) acts
 events_from schema log (Print global ∷ acts) = Ask (query_of global) (answer schema log (query_of global)) ∷ Say (answer schema log (query_of global)) ∷ events_from schema log acts
 events_from schema log (Yield ∷ acts) = YieldEvent ∷ events_from schema log acts
 
 -- the events of the acts that begin
-abbrev pub events_of : Form → List Event
+abbrev pub events_of : FirstForm → List Event
 events_of f = events_from (schema_of f) [] (begun budget f.acts)
 
 -- the text of the steps and of the end
-abbrev pub report_of : Form → List ℕ
+abbrev pub report_of : FirstForm → List ℕ
 report_of f = report_text (schema_of f) (f.client ∷ []) (steps_of (events_of f)) (end_of f ∷ [])
 
 module _ where
@@ -117,7 +117,7 @@ module _ where
   pub example_asks : trace_from 3 (Yield ∷ Print 0 ∷ []) [] ≡ (YieldEvent ∷ [], asks (query_of 0))
   example_asks = refl
 
-  abbrev counter : Form
+  abbrev counter : FirstForm
   counter = record {
     globals = codes "g" ∷ [];
     client = codes "a";

@@ -10,7 +10,7 @@ ghost use Rattle.cloud_base.specs.declared.end.End.{End};
 ghost use Rattle.cloud_base.specs.declared.schema.Schema.{Schema};
 ghost use Rattle.cloud_base.specs.declared.update.Answer.{Answer};
 ghost use Rattle.cloud_base.specs.declared.update.Event.{Event};
-ghost use Rattle.cloud_parse.specs.Form.{Form, IsForm};
+ghost use Rattle.first_form.specs.FirstForm.{FirstForm, IsFirstForm};
 ghost use Rattle.revision_diagram.specs.Headline.{Headline};
 ghost use Rattle.revision_diagram.specs.Meeting.{below_server};
 ghost use Rattle.step_text.specs.Legible.{Legible, IsEnd, Told};
@@ -53,7 +53,7 @@ pub fn events_are_lawful()
 
 /// The steps of a program's run are a lawful diagram in which it runs the program.
 pub fn runs_are_lawful()
-    ensures { (f : Form) → Headline (schema_of f) below_server (trace f ∷ []) (end_of f ∷ [])
+    ensures { (f : FirstForm) → Headline (schema_of f) below_server (trace f ∷ []) (end_of f ∷ [])
         (steps_of (events_of f)) }
 {
     events_are_lawful();
@@ -72,7 +72,7 @@ pub fn reports_tell_events()
 
 /// The text of a run's report tells the steps and the end of the run.
 pub fn reports_tell_runs()
-    ensures { (f : Form) → IsForm f
+    ensures { (f : FirstForm) → IsFirstForm f
         → Told (schema_of f) (f.client ∷ []) (steps_of (events_of f)) (end_of f ∷ []) }
 {
     plain_steps();

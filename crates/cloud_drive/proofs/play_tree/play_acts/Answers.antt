@@ -1,17 +1,17 @@
 use Rattle.std.proofs.Common.{◌≡◌, ◌+◌, ◌∷◌, [], ◌++◌, ◌∙◌, ap, sym, drop, drop-cons, subst, arith, nat_lt, append-nil, false, suc, get_or}
 use Rattle.std.specs.List.{AllByRecursion}
 use Rattle.std.proofs.lemmas.List.{drop_all}
-use Rattle.cloud_parse.specs.declared.tree.Act.{Act}
-use Rattle.cloud_parse.specs.declared.tree.Act.TheVariants.{Change}
-use Rattle.cloud_parse.specs.declared.tree.Operation.TheVariants.{Add}
-use Rattle.cloud_parse.specs.Form.{ActFits}
+use Rattle.first_form.specs.declared.form.FirstAct.{FirstAct}
+use Rattle.first_form.specs.declared.form.FirstAct.TheVariants.{Change}
+use Rattle.first_form.specs.declared.form.FirstOperation.TheVariants.{Add}
+use Rattle.first_form.specs.FirstForm.{ActFits}
 use Rattle.one_client.specs.Program.{schema_of, events_from}
 use Rattle.one_client.specs.Steps.{steps_from}
 use Rattle.cloud_drive.specs.Play.{yields_in}
 use Rattle.cloud_drive.proofs.Begun.{yields_left, continues}
 use Rattle.cloud_drive.proofs.play_tree.play_acts.Goals as goal
 
-abbrev none : Act
+abbrev none : FirstAct
 none = Change 0 Add record { minus = false; number = 0 }
 
 pub loop-next-preserved : goal.loop-next-preserved
