@@ -29,18 +29,19 @@ abbrev pub productions : Part → List (List Symbol)
 -- program = schema client { client } [ schedule ]
 -- schema = "schema" "{" { decl } "}"
 productions p.Program = (word t.Schema ∷ word t.OpenBrace ∷ part p.DeclarationTail ∷ part p.Client ∷ part p.ClientTail ∷ []) ∷ []
+productions p.DeclarationTail =
+    (word t.CloseBrace ∷ []) ∷
+    (part p.Declaration ∷ part p.DeclarationTail ∷ []) ∷ []
 -- decl = "global" NAME ":" ctype ";"
 --      | "array" NAME "[" keys "]" props
 --      | "entity" NAME [ "[" keys "]" ] props
-productions p.DeclarationTail =
-    (word t.CloseBrace ∷ []) ∷
-    (word t.Global ∷ name ∷ word t.Colon ∷ part p.CellType ∷ word t.Semicolon ∷ part p.DeclarationTail ∷ []) ∷
-    (word t.Array ∷ name ∷ word t.OpenBracket ∷ part p.Key ∷ part p.KeyTail ∷ part p.Properties ∷ part p.DeclarationTail ∷ []) ∷
-    (word t.Entity ∷ name ∷ part p.EntityKeys ∷ part p.Properties ∷ part p.DeclarationTail ∷ []) ∷ []
+productions p.Declaration =
+    (word t.Global ∷ name ∷ word t.Colon ∷ part p.CellType ∷ word t.Semicolon ∷ []) ∷
+    (word t.Array ∷ name ∷ word t.OpenBracket ∷ part p.Key ∷ part p.KeyTail ∷ part p.Properties ∷ []) ∷
+    (word t.Entity ∷ name ∷ part p.EntityKeys ∷ part p.Properties ∷ []) ∷ []
 productions p.EntityKeys =
     [] ∷
     (word t.OpenBracket ∷ part p.Key ∷ part p.KeyTail ∷ []) ∷ []
--- keys = key { "," key }
 -- key = NAME ":" ktype
 productions p.Key = (name ∷ word t.Colon ∷ part p.KeyType ∷ []) ∷ []
 -- ktype = "int" | "string" | NAME
@@ -48,18 +49,20 @@ productions p.KeyType =
     (word t.Int ∷ []) ∷
     (word t.String ∷ []) ∷
     (name ∷ []) ∷ []
+-- keys = key { "," key }
 productions p.KeyTail =
     (word t.CloseBracket ∷ []) ∷
     (word t.Comma ∷ part p.Key ∷ part p.KeyTail ∷ []) ∷ []
 -- props = "{" [ prop { ";" prop } [ ";" ] ] "}"
--- prop = NAME ":" ctype
 productions p.Properties = (word t.OpenBrace ∷ part p.PropertiesInside ∷ []) ∷ []
 productions p.PropertiesInside =
     (word t.CloseBrace ∷ []) ∷
-    (name ∷ word t.Colon ∷ part p.CellType ∷ part p.PropertyTail ∷ []) ∷ []
+    (part p.Property ∷ part p.PropertyTail ∷ []) ∷ []
 productions p.PropertyTail =
     (word t.CloseBrace ∷ []) ∷
     (word t.Semicolon ∷ part p.PropertiesInside ∷ []) ∷ []
+-- prop = NAME ":" ctype
+productions p.Property = (name ∷ word t.Colon ∷ part p.CellType ∷ []) ∷ []
 -- ctype = "CInt" | "CString"
 productions p.CellType =
     (word t.CInt ∷ []) ∷

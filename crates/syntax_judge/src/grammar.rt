@@ -21,13 +21,15 @@ pub fn productions(part: Part) -> &'static [&'static [Symbol]]
         ]],
         Part::DeclarationTail => &[
             &[Token(Fixed(Terminal::CloseBrace))],
+            &[Open(Part::Declaration), Open(Part::DeclarationTail)],
+        ],
+        Part::Declaration => &[
             &[
                 Token(Fixed(Terminal::Global)),
                 Token(Name),
                 Token(Fixed(Terminal::Colon)),
                 Open(Part::CellType),
                 Token(Fixed(Terminal::Semicolon)),
-                Open(Part::DeclarationTail),
             ],
             &[
                 Token(Fixed(Terminal::Array)),
@@ -36,14 +38,12 @@ pub fn productions(part: Part) -> &'static [&'static [Symbol]]
                 Open(Part::Key),
                 Open(Part::KeyTail),
                 Open(Part::Properties),
-                Open(Part::DeclarationTail),
             ],
             &[
                 Token(Fixed(Terminal::Entity)),
                 Token(Name),
                 Open(Part::EntityKeys),
                 Open(Part::Properties),
-                Open(Part::DeclarationTail),
             ],
         ],
         Part::EntityKeys => &[
@@ -78,12 +78,7 @@ pub fn productions(part: Part) -> &'static [&'static [Symbol]]
         ]],
         Part::PropertiesInside => &[
             &[Token(Fixed(Terminal::CloseBrace))],
-            &[
-                Token(Name),
-                Token(Fixed(Terminal::Colon)),
-                Open(Part::CellType),
-                Open(Part::PropertyTail),
-            ],
+            &[Open(Part::Property), Open(Part::PropertyTail)],
         ],
         Part::PropertyTail => &[
             &[Token(Fixed(Terminal::CloseBrace))],
@@ -92,6 +87,11 @@ pub fn productions(part: Part) -> &'static [&'static [Symbol]]
                 Open(Part::PropertiesInside),
             ],
         ],
+        Part::Property => &[&[
+            Token(Name),
+            Token(Fixed(Terminal::Colon)),
+            Open(Part::CellType),
+        ]],
         Part::CellType => &[
             &[Token(Fixed(Terminal::CInt))],
             &[Token(Fixed(Terminal::CString))],

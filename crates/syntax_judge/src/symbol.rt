@@ -7,6 +7,7 @@ use crate::kind::Kind;
 pub enum Part {
     Program,
     DeclarationTail,
+    Declaration,
     EntityKeys,
     Key,
     KeyType,
@@ -14,6 +15,7 @@ pub enum Part {
     Properties,
     PropertiesInside,
     PropertyTail,
+    Property,
     CellType,
     Client,
     ClientTail,
