@@ -1,0 +1,21 @@
+-- Tokens that have a tree.
+use Rattle.std.specs.Prelude.{List, [], ◌∷◌, None, codes}
+use Rattle.source_tokens.specs.Lexemes.{lexeme_at}
+use Rattle.source_tokens.specs.Scans.{scan, scan_behind, tokens_of}
+use Rattle.source_tokens.specs.Terminals.{reserved, words}
+use Rattle.source_tokens.specs.declared.token.Token.{Token}
+use Rattle.source_tree.specs.Programs.{SpellsProgram, program, no_declarations, client, no_clients}
+use Rattle.source_tree.specs.Statements.{block, no_statements}
+use Rattle.source_tree.specs.declared.program.Program.{Program}
+
+-- they spell some program
+abbrev pub HasTree : List Token → Type 0
+HasTree tokens = (p : Program) × SpellsProgram p tokens
+
+-- a smallest program
+pub example_tree : HasTree (tokens_of (scan (codes "schema {} client c {}")).tokens)
+unfolding scan_behind lexeme_at reserved words
+example_tree = (
+  record { declarations = []; clients = record { name = codes "c"; body = [] } ∷ []; schedule = None },
+  program [] (record { name = codes "c"; body = [] }) [] None _ _ _ no_declarations (client (codes "c") [] _ (block [] _ no_statements)) no_clients,
+)
