@@ -1,6 +1,6 @@
 -- What a player follows, after an act.
-use Rattle.std.proofs.Common.{◌≡◌, ℕ, ◌+◌, Bool, cond, List, [], ◌∷◌, ◌++◌, refl, ap, ◌∙◌, append_assoc, zero, suc}
-use Rattle.std.specs.Prelude.{Some, None, map}
+use Rattle.std.proofs.Common.{◌≡◌, ℕ, ◌+◌, Bool, true, false, cond, arith, List, [], ◌∷◌, ◌++◌, refl, ap, ◌∙◌, append_assoc, zero, suc}
+use Rattle.std.specs.Prelude.{map}
 use Rattle.cloud_base.specs.Shaped.{cell_type}
 use Rattle.cloud_base.specs.declared.schema.CellType.TheVariants.{Int}
 use Rattle.cloud_base.specs.declared.update.Update.{Update}
@@ -22,12 +22,14 @@ pub one_longer : (log pushed since : List Update) (update : Update) → log ≡ 
 one_longer log pushed since update h = ap (λ l. l ++ update ∷ []) h ∙ append_assoc pushed since (update ∷ [])
 
 -- the steps of a yield, one after another
-pub five_parts : (steps pulled forked : List Step) (mark fork join : Step)
-    → ((((steps ++ mark ∷ []) ++ pulled) ++ fork ∷ []) ++ join ∷ []) ++ forked ≡ steps ++ (mark ∷ (pulled ++ (fork ∷ join ∷ forked)))
-five_parts steps pulled forked mark fork join = simp append_assoc
+pub four_parts : (steps pulled forked : List Step) (mark fork join : Step)
+    → (((steps ++ mark ∷ []) ++ pulled) ++ fork ∷ join ∷ []) ++ forked ≡ steps ++ (mark ∷ (pulled ++ (fork ∷ join ∷ forked)))
+four_parts steps pulled forked mark fork join = simp append_assoc
 
 pub two_parts : (steps : List Step) (ask say : Step) → (steps ++ ask ∷ []) ++ say ∷ [] ≡ steps ++ ask ∷ say ∷ []
 two_parts steps ask say = simp append_assoc
 
-pub next_number : (n m : ℕ) (further : Bool) → n ≡ m → cond further (Some (n + 1)) None ≡ cond further (Some (m + 1)) None
-next_number n m further h = ap (λ k. cond further (Some (k + 1)) None) h
+-- the next free number after a yield
+pub next_number : (n m : ℕ) (further : Bool) → n ≡ m + 1 → n + cond further 1 0 ≡ m + cond further 2 1
+next_number n m true h = omega arith
+next_number n m false h = omega arith

@@ -6,7 +6,7 @@ ghost use Rattle.one_client.specs.Program.{budget, cost, begun, end_of, schema_o
 ghost use Rattle.one_client.specs.Steps.{steps_of};
 ghost use Rattle.cloud_drive.specs.Play.{is_yield_act, yields_in};
 
-use crate::act::{act, start};
+use crate::player::Player;
 use cloud_base::{CellType, End, Memory, Owner, Property, Schema, Sequence};
 use first_form::{FirstAct, FirstProgram};
 use revision_diagram::StepList;
@@ -94,11 +94,11 @@ fn play_acts(alloc: Global, count: usize, acts: &[FirstAct]) -> Result<StepList,
     ensures { IfOk result (λ steps. (f : FirstForm)
         → steps ≡ steps_of (events_from (schema_of f) [] acts.now)) }
 {
-    let mut player = start(alloc, count)?;
+    let mut player = Player::start(alloc, count)?;
     let mut yields = count_yields(acts);
     for next in acts {
         yields = left_after(yields, *next);
-        player = act(alloc, player, *next, yields > 0)?;
+        player.act(alloc, *next, yields > 0)?;
     }
     Ok(player.steps)
 }

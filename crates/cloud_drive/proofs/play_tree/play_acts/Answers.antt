@@ -26,11 +26,11 @@ loop-next-preserved c =
     let split : drop i acts ≡ act ∷ rest = drop-cons acts i none c.loop-next-test.true ∙ ap (λ k. act ∷ drop k acts) next in
     let left : c.left_after-yields.result ≡ yields_in rest = yields_left act (drop i acts) rest c.loop-next.yields c.left_after-yields.result split kept.yields c.left_after-yields.ensures in
     record {
-      count = c.in_ok-player-2.ensures.count ∙ kept.count;
-      next = omega (arith, kept.next, c.in_ok-player-2.ensures.next);
+      count = c.in_ok-act.ensures.count ∙ kept.count;
+      next = omega (arith, kept.next, c.in_ok-act.ensures.next);
       yields = left;
       fit = (subst (AllByRecursion (ActFits c.args.count)) split kept.fit).1;
-      follows = λ f. continues c.loop-next.player c.in_ok-player-2.player f act (drop i acts) rest acts further split (ap (λ n. nat_lt 0 n) left) c.in_ok-player-2.ensures.run (kept.follows f);
+      follows = λ f. continues c.loop-next.player c.act.new.self f act (drop i acts) rest acts further split (ap (λ n. nat_lt 0 n) left) c.in_ok-act.ensures.run (kept.follows f);
     }
 
 pub returns : goal.returns

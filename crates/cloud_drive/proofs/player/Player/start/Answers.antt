@@ -1,5 +1,5 @@
 use Rattle.std.proofs.Common.{[], refl}
-use Rattle.cloud_drive.proofs.act.start.Goals as goal
+use Rattle.cloud_drive.proofs.player.Player.start.Goals as goal
 
 pub returns-clause-follows : goal.returns-clause-follows
 returns-clause-follows c = record {

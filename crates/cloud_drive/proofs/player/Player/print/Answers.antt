@@ -7,12 +7,12 @@ use Rattle.fj_core.specs.IntCells.{int_plain}
 use Rattle.one_client.specs.Program.{schema_of, query_of}
 use Rattle.global_cells.specs.Cells.{changes_of}
 use Rattle.cloud_drive.proofs.Follow.{two_parts, globals_are_ints}
-use Rattle.cloud_drive.proofs.act.print.Goals as goal
+use Rattle.cloud_drive.proofs.player.Player.print.Goals as goal
 
 pub returns-clause-run : goal.returns-clause-run
 returns-clause-run c f run log h =
     let global = c.args.global in
-    let steps = c.args.player.steps in
+    let steps = c.args.self.now.steps in
     let value : Answer = Int c.ask-value.result in
     let held : Answer = Int (to_z w64 (of_z w64 c.ask-value.result)) in
     let same : held ≡ value = search rules in
@@ -31,9 +31,9 @@ returns-clause-run c f run log h =
         waiting = h.waiting;
       },
       c.in_ok-push-2.ensures.ok
-          ∙ ap (λ v. c.push.new.self ++ Say c.args.player.standing v ∷ []) same
-          ∙ ap (λ s. s ++ Say c.args.player.standing value ∷ []) (c.in_ok-push.ensures.ok ∙ ap (λ v. steps ++ Ask c.args.player.standing c.query_of.result v ∷ []) same)
-          ∙ two_parts steps (Ask c.args.player.standing c.query_of.result value) (Say c.args.player.standing value)
+          ∙ ap (λ v. c.push.new.self ++ Say c.args.self.now.standing v ∷ []) same
+          ∙ ap (λ s. s ++ Say c.args.self.now.standing value ∷ []) (c.in_ok-push.ensures.ok ∙ ap (λ v. steps ++ Ask c.args.self.now.standing c.query_of.result v ∷ []) same)
+          ∙ two_parts steps (Ask c.args.self.now.standing c.query_of.result value) (Say c.args.self.now.standing value)
           ∙ ap (λ r. steps ++ Ask r c.query_of.result value ∷ Say r value ∷ []) h.standing
           ∙ ap (λ q. steps ++ Ask run.standing q value ∷ Say run.standing value ∷ []) c.query_of.ensures
           ∙ ap (λ v. steps ++ Ask run.standing (query_of global) v ∷ Say run.standing v ∷ []) right,
