@@ -1,2 +1,4 @@
+pub mod Calls
 pub mod Judged
 pub mod Pieces
+pub mod Played

@@ -1,6 +1,8 @@
 // Runs one command: reads a source from standard input and writes what the command makes of it.
 #![tactic(auto)]
 
+mod arguments;
+mod command;
 mod flows;
 mod status;
 #[cfg(test)]
@@ -8,34 +10,19 @@ mod tests;
 mod top;
 mod words;
 
+use arguments::given_words;
 use cloud_base::{StdSink, StdSource};
+pub use command::Command;
 pub use status::Status;
 use std::env;
-use std::io::ErrorKind;
 use std::process::ExitCode;
 pub use top::{top, top_plain};
-pub use words::Words;
-
-// The arguments without the program's name. One that isn't UTF-8 is no word of a command.
-fn given_words(rt: &HostRuntime) -> Result<Words, Status> {
-    let arguments = match env::args(rt) {
-        Ok(arguments) => arguments,
-        Err(e) if e.kind() == ErrorKind::InvalidData => return Err(Status::Words),
-        Err(_) => return Err(Status::Memory),
-    };
-    let mut words = Words::new(rt.alloc());
-    for argument in arguments.skip(1) {
-        if words.push(argument.as_str()).is_err() {
-            return Err(Status::Memory);
-        }
-    }
-    Ok(words)
-}
+pub use words::{Words, words_of_commands};
 
 fn main(rt: HostRuntime) -> ExitCode {
     let mut source = StdSource::new(rt.stdin());
     let mut sink = StdSink::new(rt.stdout());
-    let status = match given_words(&rt) {
+    let status = match given_words(rt.alloc(), env::args(&rt)) {
         Ok(words) => top(&rt, rt.alloc(), &words, &mut source, &mut sink),
         Err(status) => status,
     };

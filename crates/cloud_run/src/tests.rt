@@ -1,8 +1,11 @@
 // Commands over sources and sinks in memory.
-use crate::{Status, Words, top, top_plain};
-use cloud_base::{MemSink, MemSource, Sink, Source, StdSink, StdSource};
+use crate::arguments::given_words;
+use crate::{Command, Status, Words, top, top_plain};
+use cloud_base::{MemSink, MemSource, StdSink, StdSource};
 use cloud_parse::Which;
 use std::alloc::Global;
+use std::io;
+use std::io::{Error, ErrorKind, Read, Write};
 use std::test::Fail;
 
 const SMALL: &str = "schema { } client a { }";
@@ -49,24 +52,54 @@ fn padded(alloc: Global, spaces: u32) -> Result<String, Fail> {
 #[test]
 fn prints_reports(rt: HostRuntime) -> Result<(), Fail> {
     let alloc = rt.alloc();
-    for (text, report) in [
-        (SMALL, SMALL_REPORT),
+    for (statements, report) in [
         (
-            "schema { global g : CInt; } client a { g.set(9223372036854775807); g.add(1); print g; }",
-            "fork 0 1 a\ndo 1 g.set(9223372036854775807)\ndo 1 g.add(1)\nask 1 g = -9223372036854775808\nsay 1 -9223372036854775808\nend a Done\n",
+            "g.set(9223372036854775807); g.add(1); print g;",
+            "fork 0 1 a\n\
+             do 1 g.set(9223372036854775807)\n\
+             do 1 g.add(1)\n\
+             ask 1 g = -9223372036854775808\n\
+             say 1 -9223372036854775808\n\
+             end a Done\n",
         ),
         (
-            "schema { global g : CInt; } client a { g.add(2); print g; yield; print g; }",
-            "fork 0 1 a\ndo 1 g.add(2)\nask 1 g = 2\nsay 1 2\nmark 1 yield\nfork 1 2 a\njoin 0 1\nask 2 g = 2\nsay 2 2\nend a Done\n",
+            "g.add(2); print g; yield; print g;",
+            "fork 0 1 a\n\
+             do 1 g.add(2)\n\
+             ask 1 g = 2\n\
+             say 1 2\n\
+             mark 1 yield\n\
+             fork 1 2 a\n\
+             join 0 1\n\
+             ask 2 g = 2\n\
+             say 2 2\n\
+             end a Done\n",
         ),
         (
-            "schema { global g : CInt; } client a { g.add(2); print g; yield; print g; yield; print g; }",
-            "fork 0 1 a\ndo 1 g.add(2)\nask 1 g = 2\nsay 1 2\nmark 1 yield\nfork 1 2 a\njoin 0 1\nfork 0 3 a\nask 2 g = 2\nsay 2 2\nmark 2 yield\njoin 3 2\nfork 3 4 a\njoin 0 3\nask 4 g = 2\nsay 4 2\nend a Done\n",
+            "g.add(2); print g; yield; print g; yield; print g;",
+            "fork 0 1 a\n\
+             do 1 g.add(2)\n\
+             ask 1 g = 2\n\
+             say 1 2\n\
+             mark 1 yield\n\
+             fork 1 2 a\n\
+             join 0 1\n\
+             fork 0 3 a\n\
+             ask 2 g = 2\n\
+             say 2 2\n\
+             mark 2 yield\n\
+             join 3 2\n\
+             fork 3 4 a\n\
+             join 0 3\n\
+             ask 4 g = 2\n\
+             say 4 2\n\
+             end a Done\n",
         ),
     ] {
-        let (status, sink) = played(alloc, text)?;
-        assert_eq!(rt; status, Status::Done, "at {text}");
-        assert_eq!(rt; sink.held(), report.as_bytes(), "at {text}");
+        let text = repeated(alloc, statements, 1)?;
+        let (status, sink) = played(alloc, text.as_str())?;
+        assert_eq!(rt; status, Status::Done, "at {statements}");
+        assert_eq!(rt; sink.held(), report.as_bytes(), "at {statements}");
     }
     Ok(())
 }
@@ -104,6 +137,8 @@ fn refuses_texts_and_words(rt: HostRuntime) -> Result<(), Fail> {
     }
     let (status, sink) = played(alloc, "schema { } client a {")?;
     assert_eq!(rt; status, Status::Limit(Which::Form));
+    assert_eq!(rt; status.number(), 6);
+    assert_eq!(rt; status.line(), "limit Form");
     assert!(rt; sink.held().is_empty());
     for given in [&[][..], &["play", "x"][..], &["plays"][..], &["Play"][..]] {
         let mut source = MemSource::new(alloc, SMALL.as_bytes(), 1, Some(0))?;
@@ -135,6 +170,26 @@ fn answers_faults_of_reading_and_writing(rt: HostRuntime) -> Result<(), Fail> {
     Ok(())
 }
 
+// A reader and a writer whose calls fail.
+#[derive(Drop)]
+struct Broken;
+
+impl Read for Broken {
+    fn read(&mut self, _buf: &mut [u8]) -> io::Result<usize> {
+        Err(Error::from(ErrorKind::BrokenPipe))
+    }
+}
+
+impl Write for Broken {
+    fn write(&mut self, _buf: &[u8]) -> io::Result<usize> {
+        Err(Error::from(ErrorKind::BrokenPipe))
+    }
+
+    fn flush(&mut self) -> io::Result<()> {
+        Ok(())
+    }
+}
+
 #[test]
 fn runs_over_readers_and_writers(rt: HostRuntime) -> Result<(), Fail> {
     let alloc = rt.alloc();
@@ -142,26 +197,34 @@ fn runs_over_readers_and_writers(rt: HostRuntime) -> Result<(), Fail> {
     let mut written = Vec::new(alloc);
     let mut source = StdSource::new(SMALL.as_bytes());
     let mut sink = StdSink::new(&mut written);
-    assert_eq!(rt;
-        top(&rt, alloc, &play, &mut source, &mut sink),
-        Status::Done
-    );
+    let status = top(&rt, alloc, &play, &mut source, &mut sink);
+    assert_eq!(rt; status, Status::Done);
     assert_eq!(rt; written.as_slice(), SMALL_REPORT.as_bytes());
+    let mut sink = MemSink::new(alloc, ROOM, ROOM)?;
+    let status = top(&rt, alloc, &play, &mut StdSource::new(Broken), &mut sink);
+    assert_eq!(rt; status, Status::ReadFault);
+    assert!(rt; sink.held().is_empty());
+    let mut source = StdSource::new(SMALL.as_bytes());
+    let status = top(&rt, alloc, &play, &mut source, &mut StdSink::new(Broken));
+    assert_eq!(rt; status, Status::WriteFault);
     Ok(())
 }
 
 #[test]
-fn names_each_status(rt: HostRuntime) {
-    for (status, number, line) in [
-        (Status::Done, 0, ""),
-        (Status::Words, 1, "words"),
-        (Status::ReadFault, 2, "read fault"),
-        (Status::WriteFault, 3, "write fault"),
-        (Status::Limit(Which::Bytes), 6, "limit Bytes"),
-        (Status::Limit(Which::Form), 6, "limit Form"),
-        (Status::Memory, 7, "memory"),
+fn the_first_argument_is_no_word(rt: HostRuntime) -> Result<(), Fail> {
+    let alloc = rt.alloc();
+    for (given, command) in [
+        (&["cloud", "play"][..], Some(Command::Play)),
+        (&["cloud", "", "play"][..], None),
+        (&["play"][..], None),
+        (&[][..], None),
     ] {
-        assert_eq!(rt; status.number(), number);
-        assert_eq!(rt; status.line(), line);
+        let mut arguments = Vec::new(alloc);
+        for argument in given {
+            arguments.push(String::from_str(alloc, argument)?)?;
+        }
+        let words = given_words(alloc, Ok(arguments.into_iter()))?;
+        assert!(rt; words.command() == command);
     }
+    Ok(())
 }

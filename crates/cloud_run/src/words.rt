@@ -1,7 +1,9 @@
 // The words of a command.
-ghost use Rattle.std.specs.Prelude.{◌≡◌, [], ◌∷◌, ◌++◌, ◌↔◌, IsTrue, OnOk, OnErr, IfOk};
-ghost use Rattle.cloud_run.specs.Top.{play_words};
+ghost use Rattle.std.specs.Prelude.{◌≡◌, ◌↔◌, ℕ, List, [], ◌∷◌, ◌++◌, Some, OnOk, OnErr, IfOk, codes};
+ghost use Rattle.std.specs.Str.{bytes_eq};
+ghost use Rattle.cloud_run.specs.Commands.{command_of};
 
+use crate::command::Command;
 use cloud_base::{Memory, Sequence};
 use std::alloc::Global;
 use std::marker::Model;
@@ -33,7 +35,7 @@ impl Word {
     }
 
     fn is(&self, text: &str) -> bool
-        ensures { IsTrue result ↔ (self.now ≡ text.now) }
+        ensures { result ≡ bytes_eq self.now text.now }
     {
         self.text.as_str() == text
     }
@@ -76,13 +78,20 @@ impl Words {
         self.words.push(word)
     }
 
-    /// The words of the command that plays a source.
-    pub fn are_play(&self) -> bool
-        ensures { IsTrue result ↔ (self.now ≡ play_words) }
+    /// The command whose words these are, if there is one.
+    pub fn command(&self) -> Option<Command>
+        ensures { result ≡ command_of self.now }
     {
         match self.words.as_slice() {
-            [word] => word.is("play"),
-            _ => false,
+            [word] if word.is("play") => Some(Command::Play),
+            _ => None,
         }
     }
 }
+
+/// The words of each command. No others are its.
+#[tactic(auto, using(crate::proofs::Played::play_words))]
+pub fn words_of_commands()
+    ensures play { (words : List (List ℕ)) →
+        (command_of words ≡ Some Command.Play) ↔ (words ≡ codes "play" ∷ []) }
+{}

@@ -1,0 +1,210 @@
+-- What reading a tree and what a call promise, from what their parts did.
+use Rattle.std.proofs.Common.{◌≡◌, ℕ, List, [], ◌∷◌, refl, ap, inl, inr, lit≤}
+use Rattle.std.specs.Prelude.{Option, Some, None, Ok, Err}
+use Rattle.cloud_base.specs.Causes.{Rose}
+use Rattle.cloud_parse.specs.Form.{Form, IsForm}
+use Rattle.cloud_parse.specs.Parse.{ParseAnswers}
+use Rattle.cloud_parse.specs.declared.fault.ParseFault.TheVariants as fault
+use Rattle.cloud_parse.specs.declared.fault.Which.{Which}
+use Rattle.revision_diagram.specs.Headline.{Headline}
+use Rattle.revision_diagram.specs.Meeting.{below_server}
+use Rattle.step_text.specs.Legible.{Told}
+use Rattle.one_client.specs.Program.{schema_of, trace, events_of, end_of}
+use Rattle.one_client.specs.Steps.{steps_of}
+use Rattle.cloud_run.specs.declared.command.Command.{Command}
+use Rattle.cloud_run.specs.declared.command.Command.TheVariants.{Play}
+use Rattle.cloud_run.specs.declared.flows.ReadError.TheVariants as error
+use Rattle.cloud_run.specs.declared.status.Status.{Status}
+use Rattle.cloud_run.specs.declared.status.Status.TheVariants as status
+use Rattle.cloud_run.specs.Flows.{HandedOut, Got, GotPart, ReadsAll, most_read}
+use Rattle.cloud_run.specs.Runs.{ReadsTree, Runs}
+use Rattle.cloud_run.specs.Top.{LeftForm, WritesLawful, text_of}
+use Rattle.cloud_run.proofs.Judged.{left_form, is_form, left_done, left_limit, limit_ended, judges_read_fault, judges_memory, judges_done, judges_write_fault, writes_nothing, not_done, not_words, not_write_fault, refused_accepted}
+
+-- where nothing was read all is left
+pub handed_nothing : (left : Option (List ℕ)) → HandedOut most_read left left
+handed_nothing None = refl
+handed_nothing (Some bytes) = (0, lit≤ tt, refl)
+
+-- the laws of runs, as the programs of one client have them
+abbrev pub RunsLawful : Type 0
+RunsLawful = (f : Form) → Headline (schema_of f) below_server (trace f ∷ []) (end_of f ∷ []) (steps_of (events_of f))
+
+abbrev pub RunsTold : Type 0
+RunsTold = (f : Form) → IsForm f → Told (schema_of f) (f.client ∷ []) (steps_of (events_of f)) (end_of f ∷ [])
+
+-- the report of a tree's run is lawful
+pub writes_lawful : (command : Command) (left held now : Option (List ℕ)) (f : Form) → RunsLawful → RunsTold → LeftForm left f → Got held now (text_of command f) → WritesLawful (Some command) left held now
+writes_lawful Play left held now f headline told form got = (f, steps_of (events_of f), end_of f, form, headline f, got, told f (is_form left f form))
+
+module _ {S : Type 0} (left : S → Option (List ℕ)) (faults ends : S → ℕ) (source source' : S) where
+  pub reading_failed : ReadsAll left faults ends source source' (Err error.Failed) → ReadsTree left faults ends source source' (Err status.ReadFault)
+  reading_failed r = record {
+    form = tt;
+    accepted = tt;
+    end = tt;
+    seen = tt;
+    later = r.reads.later;
+    refusal = tt;
+    judged = λ command. judges_read_fault command (left source);
+    ended = λ command. r.reads.unended;
+    read_fault = λ is. r.reads.fault refl;
+    no_read_fault = λ no. absurd (no refl);
+    handed = r.reads.handed;
+  }
+
+  pub reading_wants : ReadsAll left faults ends source source' (Err error.Memory) → ReadsTree left faults ends source source' (Err status.Memory)
+  reading_wants r = record {
+    form = tt;
+    accepted = tt;
+    end = tt;
+    seen = tt;
+    later = r.reads.later;
+    refusal = tt;
+    judged = λ command. judges_memory command (left source);
+    ended = λ command. r.reads.later;
+    read_fault = λ is. cc;
+    no_read_fault = λ no. r.reads.no_fault (λ is. cc);
+    handed = r.reads.handed;
+  }
+
+  pub parsing_wants : (taken : List ℕ) → ReadsAll left faults ends source source' (Ok taken) → ReadsTree left faults ends source source' (Err status.Memory)
+  parsing_wants taken r = record {
+    form = tt;
+    accepted = tt;
+    end = tt;
+    seen = tt;
+    later = r.reads.later;
+    refusal = tt;
+    judged = λ command. judges_memory command (left source);
+    ended = λ command. r.reads.later;
+    read_fault = λ is. cc;
+    no_read_fault = λ no. r.reads.no_fault (λ is. cc);
+    handed = r.reads.handed;
+  }
+
+  pub parsing_limits : (taken : List ℕ) (w : Which) → ReadsAll left faults ends source source' (Ok taken) → ParseAnswers taken (Err (fault.Limit w)) → ReadsTree left faults ends source source' (Err (status.Limit w))
+  parsing_limits taken w r said = record {
+    form = tt;
+    accepted = tt;
+    end = tt;
+    seen = tt;
+    later = r.reads.later;
+    refusal = tt;
+    judged = λ command. left_limit command w (left source) (left source') taken r.parts r.end said;
+    ended = λ command. limit_ended command w (ends source) (ends source') taken r.seen r.unseen said;
+    read_fault = λ is. cc;
+    no_read_fault = λ no. r.reads.no_fault (λ is. cc);
+    handed = r.reads.handed;
+  }
+
+  pub parsing_answers : (taken : List ℕ) (f : Form) → ReadsAll left faults ends source source' (Ok taken) → ParseAnswers taken (Ok f) → ReadsTree left faults ends source source' (Ok f)
+  parsing_answers taken f r said = record {
+    form = left_form (left source) (left source') taken f r.parts (r.end said.0) said.1;
+    accepted = left_done (left source) (left source') taken f r.parts (r.end said.0) said.0 said.1;
+    end = r.end said.0;
+    seen = r.seen said.0;
+    later = r.reads.later;
+    refusal = tt;
+    judged = tt;
+    ended = tt;
+    read_fault = λ is. cc;
+    no_read_fault = λ no. r.reads.no_fault (λ is. cc);
+    handed = r.reads.handed;
+  }
+
+module _ {S K : Type 0} (left : S → Option (List ℕ)) (faults ends : S → ℕ) (holds : K → Option (List ℕ)) (sink_faults : K → ℕ) where
+  -- words that are no command
+  pub no_command : (command : Option Command) (source : S) (sink : K) → command ≡ None → Runs left faults ends holds sink_faults command status.Words source source sink sink
+  no_command (Some command) source sink none = cc
+  no_command None source sink none = record {
+    words = (λ is. refl, λ is. refl);
+    unread = λ is. refl;
+    read_fault = λ is. cc;
+    no_read_fault = λ no. refl;
+    write_fault = λ is. cc;
+    no_write_fault = λ no. refl;
+    judged = tt;
+    ended = refl;
+    handed = handed_nothing (left source);
+    written = refl;
+    silent = λ not_done not_fault. refl;
+    lawful = λ is. tt;
+    complete = λ accepted. absurd accepted;
+  }
+
+  module _ (command : Command) (source source' : S) where
+    -- a source that isn't read, or breaks a limit
+    pub refused : (s : Status) (sink : K) → ReadsTree left faults ends source source' (Err s) → Runs left faults ends holds sink_faults (Some command) s source source' sink sink
+    refused s sink r = record {
+      words = (λ is. absurd (not_words s r.refusal is), λ none. cc);
+      unread = λ is. absurd (not_words s r.refusal is);
+      read_fault = λ is. r.read_fault (ap Err is);
+      no_read_fault = λ no. r.no_read_fault (λ is. no cc);
+      write_fault = λ is. absurd (not_write_fault s r.refusal is);
+      no_write_fault = λ no. refl;
+      judged = r.judged command;
+      ended = r.ended command;
+      handed = r.handed;
+      written = writes_nothing command s (left source) (left source') (holds sink) r.refusal;
+      silent = λ not_done not_fault. refl;
+      lawful = λ is. absurd (not_done s r.refusal is);
+      complete = λ accepted no_fault no_sink_fault. refused_accepted command s (left source) r.refusal (r.judged command) accepted (λ is. no_fault (r.read_fault (ap Err is)));
+    }
+
+    module _ (f : Form) (r : ReadsTree left faults ends source source' (Ok f)) where
+      -- want of memory for the text
+      pub text_wants : (sink : K) → Runs left faults ends holds sink_faults (Some command) status.Memory source source' sink sink
+      text_wants sink = record {
+        words = (λ is. cc, λ none. cc);
+        unread = λ is. cc;
+        read_fault = λ is. cc;
+        no_read_fault = λ no. r.no_read_fault (λ is. cc);
+        write_fault = λ is. cc;
+        no_write_fault = λ no. refl;
+        judged = judges_memory command (left source);
+        ended = r.later;
+        handed = r.handed;
+        written = refl;
+        silent = λ not_done not_fault. refl;
+        lawful = λ is. cc;
+        complete = λ accepted no_fault no_sink_fault. inr refl;
+      }
+
+      -- the sink took the whole text
+      pub written_whole : (sink sink' : K) → RunsLawful → RunsTold → sink_faults sink' ≡ sink_faults sink → Got (holds sink) (holds sink') (text_of command f)
+          → Runs left faults ends holds sink_faults (Some command) status.Done source source' sink sink'
+      written_whole sink sink' headline told stands got = record {
+        words = (λ is. cc, λ none. cc);
+        unread = λ is. cc;
+        read_fault = λ is. cc;
+        no_read_fault = λ no. r.no_read_fault (λ is. cc);
+        write_fault = λ is. cc;
+        no_write_fault = λ no. stands;
+        judged = judges_done command (left source) r.accepted;
+        ended = r.seen;
+        handed = r.handed;
+        written = (f, r.form, r.end, got);
+        silent = λ not_done not_fault. absurd (not_done refl);
+        lawful = λ is. writes_lawful command (left source) (holds sink) (holds sink') f headline told r.form got;
+        complete = λ accepted no_fault no_sink_fault. inl refl;
+      }
+
+      -- the sink failed
+      pub written_part : (sink sink' : K) → Rose (sink_faults sink) (sink_faults sink') → GotPart (holds sink) (holds sink') (text_of command f)
+          → Runs left faults ends holds sink_faults (Some command) status.WriteFault source source' sink sink'
+      written_part sink sink' rose got = record {
+        words = (λ is. cc, λ none. cc);
+        unread = λ is. cc;
+        read_fault = λ is. cc;
+        no_read_fault = λ no. r.no_read_fault (λ is. cc);
+        write_fault = λ is. rose;
+        no_write_fault = λ no. absurd (no refl);
+        judged = judges_write_fault command (left source) (judges_done command (left source) r.accepted);
+        ended = r.seen;
+        handed = r.handed;
+        written = (f, r.form, r.end, got);
+        silent = λ not_done not_fault. absurd (not_fault refl);
+        lawful = λ is. cc;
+        complete = λ accepted no_fault no_sink_fault. absurd (no_sink_fault rose);
+      }
