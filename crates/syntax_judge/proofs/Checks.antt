@@ -32,14 +32,14 @@ term_goes_on = t.Times ∷ t.Divide ∷ t.Remainder ∷ place_goes_on
 abbrev sum_goes_on : List Terminal
 sum_goes_on = t.Plus ∷ t.Minus ∷ t.Concat ∷ term_goes_on
 
-abbrev comp_goes_on : List Terminal
-comp_goes_on = t.Equal ∷ t.NotEqual ∷ t.Less ∷ t.LessOrEqual ∷ t.Greater ∷ t.GreaterOrEqual ∷ sum_goes_on
+abbrev comparison_goes_on : List Terminal
+comparison_goes_on = t.Equal ∷ t.NotEqual ∷ t.Less ∷ t.LessOrEqual ∷ t.Greater ∷ t.GreaterOrEqual ∷ sum_goes_on
 
-abbrev conj_goes_on : List Terminal
-conj_goes_on = t.And ∷ comp_goes_on
+abbrev conjunction_goes_on : List Terminal
+conjunction_goes_on = t.And ∷ comparison_goes_on
 
-abbrev expr_goes_on : List Terminal
-expr_goes_on = t.Or ∷ conj_goes_on
+abbrev expression_goes_on : List Terminal
+expression_goes_on = t.Or ∷ conjunction_goes_on
 
 abbrev pub goes_on : Part → List Terminal
 goes_on p.EntityKeys = t.OpenBracket ∷ []
@@ -54,13 +54,13 @@ goes_on p.TermTail = term_goes_on
 goes_on p.Term = term_goes_on
 goes_on p.SumTail = sum_goes_on
 goes_on p.Sum = sum_goes_on
-goes_on p.ComparisonTail = comp_goes_on
-goes_on p.Comparison = comp_goes_on
-goes_on p.Negation = comp_goes_on
-goes_on p.AndTail = conj_goes_on
-goes_on p.Conjunction = conj_goes_on
-goes_on p.OrTail = expr_goes_on
-goes_on p.Expression = expr_goes_on
+goes_on p.ComparisonTail = comparison_goes_on
+goes_on p.Comparison = comparison_goes_on
+goes_on p.Negation = comparison_goes_on
+goes_on p.AndTail = conjunction_goes_on
+goes_on p.Conjunction = conjunction_goes_on
+goes_on p.OrTail = expression_goes_on
+goes_on p.Expression = expression_goes_on
 goes_on _ = []
 
 abbrev pub clash : Symbol → List Kind
