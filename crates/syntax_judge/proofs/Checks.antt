@@ -14,6 +14,7 @@ use Rattle.syntax_judge.specs.declared.symbol.Part.{Part}
 use Rattle.syntax_judge.specs.declared.symbol.Part.TheVariants as p
 use Rattle.syntax_judge.specs.declared.symbol.Symbol.{Symbol}
 use Rattle.syntax_judge.specs.declared.symbol.Symbol.TheVariants as s
+use Rattle.syntax_judge.specs.declared.symbol.Symbol.TheVariants.{Open}
 
 -- every kind of token
 abbrev terminals : List Terminal

@@ -12,9 +12,10 @@ use Rattle.syntax_judge.proofs.Truth.{never, both, empty_is, some_one, none_some
 use Rattle.syntax_judge.proofs.Step.{stepped, derives_back, fine_after}
 use Rattle.syntax_judge.proofs.Checks.{fine}
 use Rattle.syntax_judge.proofs.Ends.{advance_all, finish}
-use Rattle.syntax_judge.specs.Grammar.{part, productions}
+use Rattle.syntax_judge.specs.Grammar.{productions}
 use Rattle.syntax_judge.specs.Programs.{Derives, nothing, takes, becomes, start, Begins, JudgeAnswers}
 use Rattle.syntax_judge.specs.Tables.{is_nullable, advance, table_at, are_nullable}
+use Rattle.syntax_judge.specs.declared.symbol.Symbol.TheVariants.{Open}
 
 -- what a stack of empty parts stands for
 pub empty_derives : (st : List Symbol) → are_nullable st ≡ true → Derives st []
@@ -52,7 +53,7 @@ derives_both a b us ts (becomes q way st rest i d) e =
 abbrev pub leaves_empty : List Symbol → List Kind → Bool
 leaves_empty st ts = elim (advance_all st ts) [ Some after ↦ are_nullable after | None ↦ false ]
 
-finishes_part : (q : Part) → leaves_empty (part q ∷ []) (finish (part q)) ≡ true
+finishes_part : (q : Part) → leaves_empty (Open q ∷ []) (finish (Open q)) ≡ true
 unfolding table_at
 finishes_part p.Program = refl
 finishes_part _ = refl

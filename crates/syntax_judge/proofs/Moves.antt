@@ -10,55 +10,56 @@ use Rattle.syntax_judge.specs.declared.symbol.Part.{Part}
 use Rattle.syntax_judge.specs.declared.symbol.Symbol.TheVariants as s
 use Rattle.syntax_judge.proofs.Ends.{advance_all}
 use Rattle.syntax_judge.specs.Grammar.{productions}
-use Rattle.syntax_judge.specs.Tables.{Table, is_same_kind, token_left, is_nullable, advance_by, first_way, table_at, table, advance, is_empty, took}
+use Rattle.syntax_judge.specs.Tables.{Table, is_same_kind, token_left, is_nullable, advance_by, first_way, table_at, table, advance, is_empty, outcome}
+use Rattle.syntax_judge.specs.declared.symbol.Symbol.TheVariants.{Open}
 
 -- ---- one symbol of several
 
-found_by : (o : Option (List Symbol)) (n : Bool) (below rest new : List Symbol) (later : Option (List Symbol)) → (true, new) ≡ took (below ++ reverse rest) o
-    → (true, new) ≡ took below (elim o [ Some left ↦ Some (left ++ rest) | None ↦ elim n [ true ↦ later | false ↦ None ] ])
+found_by : (o : Option (List Symbol)) (n : Bool) (below rest new : List Symbol) (later : Option (List Symbol)) → (true, new) ≡ outcome (below ++ reverse rest) o
+    → (true, new) ≡ outcome below (elim o [ Some left ↦ Some (left ++ rest) | None ↦ elim n [ true ↦ later | false ↦ None ] ])
 found_by (Some left) n below rest new later h =
     h ∙ ap (λ u. (true, u)) (append_assoc below (reverse rest) (reverse left) ∙ ap (λ u. below ++ u) (sym (reverse-append left rest)))
 found_by None n below rest new later h = absurd (true≢false (ap (λ p. p.0) h))
 
-pub way_found : (table : Table) (k : Kind) (x : Symbol) (below rest new : List Symbol) → (true, new) ≡ took (below ++ reverse rest) (table x k) → (true, new) ≡ took below (advance_by table (x ∷ rest) k)
+pub way_found : (table : Table) (k : Kind) (x : Symbol) (below rest new : List Symbol) → (true, new) ≡ outcome (below ++ reverse rest) (table x k) → (true, new) ≡ outcome below (advance_by table (x ∷ rest) k)
 way_found table k x below rest new h = found_by (table x k) (is_nullable x) below rest new (advance_by table rest k) h
 
 abbrev empty_or : Bool → Option (List Symbol) → Option (List Symbol)
 empty_or true later = later
 empty_or false later = None
 
-lost_by : (o : Option (List Symbol)) (n m : Bool) (st rest new : List Symbol) (later : Option (List Symbol)) → (false, new) ≡ took st o → m ≡ n
+lost_by : (o : Option (List Symbol)) (n m : Bool) (st rest new : List Symbol) (later : Option (List Symbol)) → (false, new) ≡ outcome st o → m ≡ n
     → elim o [ Some left ↦ Some (left ++ rest) | None ↦ elim n [ true ↦ later | false ↦ None ] ] ≡ empty_or m later
 lost_by (Some left) n m st rest new later h e = absurd (true≢false (sym (ap (λ p. p.0) h)))
 lost_by None true m st rest new later h e = ap (λ b. empty_or b later) (sym e)
 lost_by None false m st rest new later h e = ap (λ b. empty_or b later) (sym e)
 
 -- the symbol can't begin with the token: it stands for nothing, or the token doesn't come
-pub way_lost : (table : Table) (k : Kind) (x : Symbol) (m : Bool) (st rest new : List Symbol) → (false, new) ≡ took st (table x k) → m ≡ is_nullable x → advance_by table (x ∷ rest) k ≡ empty_or m (advance_by table rest k)
+pub way_lost : (table : Table) (k : Kind) (x : Symbol) (m : Bool) (st rest new : List Symbol) → (false, new) ≡ outcome st (table x k) → m ≡ is_nullable x → advance_by table (x ∷ rest) k ≡ empty_or m (advance_by table rest k)
 way_lost table k x m st rest new h n = lost_by (table x k) (is_nullable x) m st rest new (advance_by table rest k) h n
 
-pub lost_kept : (o : Option (List Symbol)) (st new : List Symbol) → (false, new) ≡ took st o → new ≡ st
+pub lost_kept : (o : Option (List Symbol)) (st new : List Symbol) → (false, new) ≡ outcome st o → new ≡ st
 lost_kept (Some left) st new h = absurd (true≢false (sym (ap (λ p. p.0) h)))
 lost_kept None st new h = ap (λ p. p.1) h
 
 -- ---- the top of the stack
 
-top_by : (o : Option (List Symbol)) (n : Bool) (below new : List Symbol) (later : Option (List Symbol)) → (true, new) ≡ took below o
+top_by : (o : Option (List Symbol)) (n : Bool) (below new : List Symbol) (later : Option (List Symbol)) → (true, new) ≡ outcome below o
     → elim o [ Some left ↦ Some (left ++ reverse below) | None ↦ elim n [ true ↦ later | false ↦ None ] ] ≡ Some (reverse new)
 top_by (Some left) n below new later h =
     ap Some (ap (λ u. u ++ reverse below) (sym (reverse-reverse left)) ∙ sym (reverse-append below (reverse left)) ∙ ap reverse (sym (ap (λ p. p.1) h)))
 top_by None n below new later h = absurd (true≢false (ap (λ p. p.0) h))
 
-pub top_found : (table : Table) (k : Kind) (x : Symbol) (below new : List Symbol) → (true, new) ≡ took below (table x k) → advance_by table (x ∷ reverse below) k ≡ Some (reverse new)
+pub top_found : (table : Table) (k : Kind) (x : Symbol) (below new : List Symbol) → (true, new) ≡ outcome below (table x k) → advance_by table (x ∷ reverse below) k ≡ Some (reverse new)
 top_found table k x below new h = top_by (table x k) (is_nullable x) below new (advance_by table (reverse below) k) h
 
 -- what the code knows of a symbol that it took from the top and tried
 pub record Popped (k : Kind) (x : Symbol) (start below new : List Symbol) (found : Bool) : Type 0 where
   pub left : advance (x ∷ reverse below) k ≡ advance (reverse start) k
-  pub tried : (found, new) ≡ took below (table x k)
+  pub tried : (found, new) ≡ outcome below (table x k)
 
 pub popped : (k : Kind) (x : Symbol) (start st below new : List Symbol) (found known : Bool) → advance (reverse st) k ≡ advance (reverse start) k → st ≡ below ++ x ∷ []
-    → (found, new) ≡ took below (table x k) → found ≡ known → Popped k x start below new known
+    → (found, new) ≡ outcome below (table x k) → found ≡ known → Popped k x start below new known
 popped k x start st below new found known left top took_it known_it = record {
   left = ap (λ u. advance u k) (sym (reverse-append below (x ∷ []))) ∙ ap (λ u. advance (reverse u) k) (sym top) ∙ left;
   tried = ap (λ b. (b, new)) (sym known_it) ∙ took_it;
@@ -97,9 +98,9 @@ all_more (j ∷ us) st k = more_by us k (advance st j) (λ next. all_more us nex
 
 -- ---- the table of a part
 
-pub table_none : (depth : ℕ) (x : Symbol) (q : Part) (k : Kind) (st : List Symbol) → depth ≡ 0 → x ≡ s.Open q → (false, st) ≡ took st (table_at depth x k)
+pub table_none : (depth : ℕ) (x : Symbol) (q : Part) (k : Kind) (st : List Symbol) → depth ≡ 0 → x ≡ s.Open q → (false, st) ≡ outcome st (table_at depth x k)
 unfolding table_at
-table_none depth x q k st e f = ap (λ x. took st (table_at 0 x k)) (sym f) ∙ ap (λ n. took st (table_at n x k)) (sym e)
+table_none depth x q k st e f = ap (λ x. outcome st (table_at 0 x k)) (sym f) ∙ ap (λ n. outcome st (table_at n x k)) (sym e)
 
 pub table_part : (depth : ℕ) (x : Symbol) (q : Part) (k : Kind) (ways : List (List Symbol)) → (depth ≡ 0 → ⊥) → x ≡ s.Open q → ways ≡ productions q → first_way (table_at (depth - 1)) ways k ≡ table_at depth x k
 unfolding table_at
@@ -116,21 +117,21 @@ place way i d h = drop-cons way i d h ∙ ap (λ n. get_or way i d ∷ drop n wa
 pub record Tried (table : Table) (k : Kind) (way : List Symbol) (i : ℕ) (x : Symbol) (old new : List Symbol) (found : Bool) : Type 0 where
   pub here : drop i way ≡ x ∷ drop (i + 1) way
   pub left : advance_by table (drop i way) k ≡ advance_by table way k
-  pub tried : (found, new) ≡ took (old ++ reverse (drop (i + 1) way)) (table x k)
+  pub tried : (found, new) ≡ outcome (old ++ reverse (drop (i + 1) way)) (table x k)
 
 pub tried : (table : Table) (k : Kind) (way : List Symbol) (i : ℕ) (d : Symbol) (old now pushed new : List Symbol) (found known : Bool) → i < length way → now ≡ old
     → pushed ≡ now ++ reverse (take (length way - (i + 1)) (drop (i + 1) way)) → advance_by table (drop i way) k ≡ advance_by table way k
-    → (found, new) ≡ took pushed (table (get_or way i d) k) → found ≡ known → Tried table k way i (get_or way i d) old new known
+    → (found, new) ≡ outcome pushed (table (get_or way i d) k) → found ≡ known → Tried table k way i (get_or way i d) old new known
 tried table k way i d old now pushed new found known below kept push left took_it known_it = record {
   here = place way i d below;
   left = left;
   tried = ap (λ b. (b, new)) (sym known_it) ∙ took_it
-      ∙ ap (λ st. took st (table (get_or way i d) k)) (push ∙ ap (λ u. now ++ reverse u) (take_rest way (i + 1)) ∙ ap (λ u. u ++ reverse (drop (i + 1) way)) kept);
+      ∙ ap (λ st. outcome st (table (get_or way i d) k)) (push ∙ ap (λ u. now ++ reverse u) (take_rest way (i + 1)) ∙ ap (λ u. u ++ reverse (drop (i + 1) way)) kept);
 }
 
-pub tried_found : (table : Table) (k : Kind) (way : List Symbol) (i : ℕ) (x : Symbol) (old new : List Symbol) → Tried table k way i x old new true → (true, new) ≡ took old (advance_by table way k)
+pub tried_found : (table : Table) (k : Kind) (way : List Symbol) (i : ℕ) (x : Symbol) (old new : List Symbol) → Tried table k way i x old new true → (true, new) ≡ outcome old (advance_by table way k)
 tried_found table k way i x old new t =
-    way_found table k x old (drop (i + 1) way) new t.tried ∙ ap (took old) (ap (λ u. advance_by table u k) (sym t.here) ∙ t.left)
+    way_found table k x old (drop (i + 1) way) new t.tried ∙ ap (outcome old) (ap (λ u. advance_by table u k) (sym t.here) ∙ t.left)
 
 pub tried_kept : (table : Table) (k : Kind) (way : List Symbol) (i : ℕ) (x : Symbol) (old new cut : List Symbol) (n : ℕ) → Tried table k way i x old new false → n ≡ length old → cut ≡ take n new → cut ≡ old
 tried_kept table k way i x old new cut n t e h =
@@ -140,21 +141,21 @@ pub tried_over : (table : Table) (k : Kind) (way : List Symbol) (i : ℕ) (x : S
 tried_over table k way i x old new t n =
     sym (way_lost table k x true (old ++ reverse (drop (i + 1) way)) (drop (i + 1) way) new t.tried n) ∙ ap (λ u. advance_by table u k) (sym t.here) ∙ t.left
 
-pub tried_stuck : (table : Table) (k : Kind) (way : List Symbol) (i : ℕ) (x : Symbol) (old new cut : List Symbol) → Tried table k way i x old new false → false ≡ is_nullable x → cut ≡ old → (false, cut) ≡ took old (advance_by table way k)
+pub tried_stuck : (table : Table) (k : Kind) (way : List Symbol) (i : ℕ) (x : Symbol) (old new cut : List Symbol) → Tried table k way i x old new false → false ≡ is_nullable x → cut ≡ old → (false, cut) ≡ outcome old (advance_by table way k)
 tried_stuck table k way i x old new cut t n kept =
     ap (λ u. (false, u)) kept
-    ∙ ap (took old) (sym (way_lost table k x false (old ++ reverse (drop (i + 1) way)) (drop (i + 1) way) new t.tried n) ∙ ap (λ u. advance_by table u k) (sym t.here) ∙ t.left)
+    ∙ ap (outcome old) (sym (way_lost table k x false (old ++ reverse (drop (i + 1) way)) (drop (i + 1) way) new t.tried n) ∙ ap (λ u. advance_by table u k) (sym t.here) ∙ t.left)
 
 -- ---- a token
 
-token_took_by : (b : Bool) (st : List Symbol) → (b, st) ≡ took st (token_left b)
+token_took_by : (b : Bool) (st : List Symbol) → (b, st) ≡ outcome st (token_left b)
 token_took_by true st = ap (λ u. (true, u)) (sym (append-nil st))
 token_took_by false st = refl
 
-pub token_took : (depth : ℕ) (x : Symbol) (wanted k : Kind) (st : List Symbol) (b : Bool) → x ≡ s.Token wanted → b ≡ is_same_kind wanted k → (b, st) ≡ took st (table_at depth x k)
+pub token_took : (depth : ℕ) (x : Symbol) (wanted k : Kind) (st : List Symbol) (b : Bool) → x ≡ s.Token wanted → b ≡ is_same_kind wanted k → (b, st) ≡ outcome st (table_at depth x k)
 unfolding table_at
 token_took depth x wanted k st b e h =
-    token_took_by b st ∙ ap (λ b. took st (token_left b)) h ∙ ap (λ x. took st (table_at depth x k)) (sym e)
+    token_took_by b st ∙ ap (λ b. outcome st (token_left b)) h ∙ ap (λ x. outcome st (table_at depth x k)) (sym e)
 
 -- ---- a way that isn't empty
 

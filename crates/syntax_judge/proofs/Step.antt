@@ -14,6 +14,7 @@ use Rattle.syntax_judge.proofs.Checks.{kinds, has, clash, starts, fine, agrees, 
 use Rattle.syntax_judge.specs.Grammar.{productions}
 use Rattle.syntax_judge.specs.Programs.{IsOneOf, Derives, nothing, takes, becomes}
 use Rattle.syntax_judge.specs.Tables.{is_same_kind, is_nullable, token_left, table_at, table, most_deep, advance, are_nullable}
+use Rattle.syntax_judge.specs.declared.symbol.Symbol.TheVariants.{Open}
 
 -- each part passes its test
 passed : (q : Part) → passes q ≡ true

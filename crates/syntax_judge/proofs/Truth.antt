@@ -12,6 +12,7 @@ use Rattle.syntax_judge.specs.declared.symbol.Symbol.TheVariants as s
 use Rattle.syntax_judge.proofs.Checks.{kinds, has, same_symbols, implies}
 use Rattle.syntax_judge.specs.Programs.{IsOneOf}
 use Rattle.syntax_judge.specs.Tables.{is_same_kind, is_empty}
+use Rattle.syntax_judge.specs.declared.symbol.Symbol.TheVariants.{Open}
 
 pub never : {A : Type 0} → false ≡ true → A
 never h = absurd (true≢false (sym h))

@@ -12,8 +12,8 @@ use Rattle.syntax_judge.specs.declared.verdict.Verdict.TheVariants as v
 use Rattle.syntax_judge.proofs.Lead.{accepted, ends_too_soon, fails_at}
 use Rattle.syntax_judge.proofs.Moves.{all_more}
 use Rattle.syntax_judge.proofs.Ends.{advance_all}
-use Rattle.syntax_judge.specs.Programs.{kind_of, kinds_of, start, Begins, JudgeAnswers}
-use Rattle.syntax_judge.specs.Tables.{advance, is_nullable, are_nullable, told}
+use Rattle.syntax_judge.specs.Programs.{kind_of, kinds_in, start, Begins, JudgeAnswers}
+use Rattle.syntax_judge.specs.Tables.{advance, is_nullable, are_nullable, if_found}
 
 both_ways : (a b : Bool) → (a && (b && true)) ≡ (b && a)
 both_ways true true = refl
@@ -27,39 +27,39 @@ list_all-reverse test (x ∷ xs) =
     ap (list_all test) (reverse-append (x ∷ []) xs) ∙ list_all-append test (reverse xs) (x ∷ []) ∙ both_ways (list_all test (reverse xs)) (test x)
     ∙ ap (λ b. test x && b) (list_all-reverse test xs)
 
-kinds_more : (ts : List Placed) (i : ℕ) (d : Placed) → i < length ts → kinds_of (take (i + 1) ts) ≡ kinds_of (take i ts) ++ kind_of (get_or ts i d).token ∷ []
+kinds_more : (ts : List Placed) (i : ℕ) (d : Placed) → i < length ts → kinds_in (take (i + 1) ts) ≡ kinds_in (take i ts) ++ kind_of (get_or ts i d).token ∷ []
 kinds_more ts i d below =
-    ap kinds_of (take_more ts i d below) ∙ ap (map kind_of) (map-append (λ (placed : Placed). placed.token) (take i ts) (get_or ts i d ∷ []))
+    ap kinds_in (take_more ts i d below) ∙ ap (map kind_of) (map-append (λ (placed : Placed). placed.token) (take i ts) (get_or ts i d ∷ []))
     ∙ map-append kind_of (tokens_of (take i ts)) ((get_or ts i d).token ∷ [])
 
-pub kinds_front : (ts : List Placed) (i : ℕ) → kinds_of (take i ts) ≡ take i (kinds_of ts)
+pub kinds_front : (ts : List Placed) (i : ℕ) → kinds_in (take i ts) ≡ take i (kinds_in ts)
 kinds_front [] zero = refl
 kinds_front [] (suc i) = refl
 kinds_front (t ∷ ts) zero = refl
 kinds_front (t ∷ ts) (suc i) = ap (λ ks. kind_of t.token ∷ ks) (kinds_front ts i)
 
-pub kinds_length : (ts : List Placed) → length (kinds_of ts) ≡ length ts
+pub kinds_length : (ts : List Placed) → length (kinds_in ts) ≡ length ts
 kinds_length [] = refl
 kinds_length (t ∷ ts) = ap suc (kinds_length ts)
 
-pub judged_more : (ts : List Placed) (i : ℕ) (d : Placed) (k : Kind) (st new : List Symbol) (found : Bool) → i < length ts → advance_all start (kinds_of (take i ts)) ≡ Some (reverse st)
-    → k ≡ kind_of (get_or ts i d).token → advance (reverse st) k ≡ told found (reverse new) → found ≡ true → advance_all start (kinds_of (take (i + 1) ts)) ≡ Some (reverse new)
+pub judged_more : (ts : List Placed) (i : ℕ) (d : Placed) (k : Kind) (st new : List Symbol) (found : Bool) → i < length ts → advance_all start (kinds_in (take i ts)) ≡ Some (reverse st)
+    → k ≡ kind_of (get_or ts i d).token → advance (reverse st) k ≡ if_found found (reverse new) → found ≡ true → advance_all start (kinds_in (take (i + 1) ts)) ≡ Some (reverse new)
 judged_more ts i d k st new found below h is step e =
-    ap (advance_all start) (kinds_more ts i d below ∙ ap (λ k. kinds_of (take i ts) ++ k ∷ []) (sym is)) ∙ all_more (kinds_of (take i ts)) start k
-    ∙ ap (λ o. option_and_then (λ after. advance after k) o) h ∙ step ∙ ap (λ b. told b (reverse new)) e
+    ap (advance_all start) (kinds_more ts i d below ∙ ap (λ k. kinds_in (take i ts) ++ k ∷ []) (sym is)) ∙ all_more (kinds_in (take i ts)) start k
+    ∙ ap (λ o. option_and_then (λ after. advance after k) o) h ∙ step ∙ ap (λ b. if_found b (reverse new)) e
 
-pub judged_fails : (ts : List Placed) (i : ℕ) (d : Placed) (k : Kind) (st new : List Symbol) (found : Bool) → i < length ts → advance_all start (kinds_of (take i ts)) ≡ Some (reverse st)
-    → k ≡ kind_of (get_or ts i d).token → advance (reverse st) k ≡ told found (reverse new) → found ≡ false → JudgeAnswers (kinds_of ts) (v.FailsAt i)
+pub judged_fails : (ts : List Placed) (i : ℕ) (d : Placed) (k : Kind) (st new : List Symbol) (found : Bool) → i < length ts → advance_all start (kinds_in (take i ts)) ≡ Some (reverse st)
+    → k ≡ kind_of (get_or ts i d).token → advance (reverse st) k ≡ if_found found (reverse new) → found ≡ false → JudgeAnswers (kinds_in ts) (v.FailsAt i)
 judged_fails ts i d k st new found below h is step e =
-    let (begins, not) = fails_at (kinds_of (take i ts)) k (reverse st) h (step ∙ ap (λ b. told b (reverse new)) e) in
-    let with_it : take (i + 1) (kinds_of ts) ≡ kinds_of (take i ts) ++ k ∷ [] = sym (kinds_front ts (i + 1)) ∙ kinds_more ts i d below ∙ ap (λ k. kinds_of (take i ts) ++ k ∷ []) (sym is) in
+    let (begins, not) = fails_at (kinds_in (take i ts)) k (reverse st) h (step ∙ ap (λ b. if_found b (reverse new)) e) in
+    let with_it : take (i + 1) (kinds_in ts) ≡ kinds_in (take i ts) ++ k ∷ [] = sym (kinds_front ts (i + 1)) ∙ kinds_more ts i d below ∙ ap (λ k. kinds_in (take i ts) ++ k ∷ []) (sym is) in
     (subst (λ n. i < n) (sym (kinds_length ts)) below, subst Begins (kinds_front ts i) begins, λ b. not (subst Begins with_it b))
 
-judged_whole : (ts : List Placed) (i : ℕ) (st : List Symbol) → length ts ≤ i → advance_all start (kinds_of (take i ts)) ≡ Some (reverse st) → advance_all start (kinds_of ts) ≡ Some (reverse st)
-judged_whole ts i st past h = ap (λ us. advance_all start (kinds_of us)) (sym (take_all i ts past)) ∙ h
+judged_whole : (ts : List Placed) (i : ℕ) (st : List Symbol) → length ts ≤ i → advance_all start (kinds_in (take i ts)) ≡ Some (reverse st) → advance_all start (kinds_in ts) ≡ Some (reverse st)
+judged_whole ts i st past h = ap (λ us. advance_all start (kinds_in us)) (sym (take_all i ts past)) ∙ h
 
-pub judged_all : (ts : List Placed) (i : ℕ) (st : List Symbol) (ends : Bool) → length ts ≤ i → advance_all start (kinds_of (take i ts)) ≡ Some (reverse st) → ends ≡ are_nullable st → ends ≡ true → JudgeAnswers (kinds_of ts) v.Accepted
-judged_all ts i st ends past h e true_it = accepted (kinds_of ts) (reverse st) (judged_whole ts i st past h) (list_all-reverse is_nullable st ∙ sym e ∙ true_it)
+pub judged_all : (ts : List Placed) (i : ℕ) (st : List Symbol) (ends : Bool) → length ts ≤ i → advance_all start (kinds_in (take i ts)) ≡ Some (reverse st) → ends ≡ are_nullable st → ends ≡ true → JudgeAnswers (kinds_in ts) v.Accepted
+judged_all ts i st ends past h e true_it = accepted (kinds_in ts) (reverse st) (judged_whole ts i st past h) (list_all-reverse is_nullable st ∙ sym e ∙ true_it)
 
-pub judged_short : (ts : List Placed) (i : ℕ) (st : List Symbol) (ends : Bool) → length ts ≤ i → advance_all start (kinds_of (take i ts)) ≡ Some (reverse st) → ends ≡ are_nullable st → ends ≡ false → JudgeAnswers (kinds_of ts) v.EndsTooSoon
-judged_short ts i st ends past h e false_it = ends_too_soon (kinds_of ts) (reverse st) (judged_whole ts i st past h) (list_all-reverse is_nullable st ∙ sym e ∙ false_it)
+pub judged_short : (ts : List Placed) (i : ℕ) (st : List Symbol) (ends : Bool) → length ts ≤ i → advance_all start (kinds_in (take i ts)) ≡ Some (reverse st) → ends ≡ are_nullable st → ends ≡ false → JudgeAnswers (kinds_in ts) v.EndsTooSoon
+judged_short ts i st ends past h e false_it = ends_too_soon (kinds_in ts) (reverse st) (judged_whole ts i st past h) (list_all-reverse is_nullable st ∙ sym e ∙ false_it)

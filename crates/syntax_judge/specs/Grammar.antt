@@ -9,6 +9,7 @@ use Rattle.syntax_judge.specs.declared.symbol.Part.{Part}
 use Rattle.syntax_judge.specs.declared.symbol.Part.TheVariants as p
 use Rattle.syntax_judge.specs.declared.symbol.Symbol.{Symbol}
 use Rattle.syntax_judge.specs.declared.symbol.Symbol.TheVariants as s
+use Rattle.syntax_judge.specs.declared.symbol.Symbol.TheVariants.{Open}
 
 abbrev pub word : Terminal → Symbol
 word w = s.Token (k.Fixed w)
@@ -22,28 +23,25 @@ number = s.Token k.Number
 abbrev pub text : Symbol
 text = s.Token k.Text
 
-abbrev pub part : Part → Symbol
-part p = s.Open p
-
 abbrev pub productions : Part → List (List Symbol)
 -- program = schema client { client } [ schedule ]
 -- schema = "schema" "{" { decl } "}"
-productions p.Program = (word t.Schema ∷ word t.OpenBrace ∷ part p.DeclarationTail ∷ part p.Client ∷ part p.ClientTail ∷ []) ∷ []
+productions p.Program = (word t.Schema ∷ word t.OpenBrace ∷ Open p.DeclarationTail ∷ Open p.Client ∷ Open p.ClientTail ∷ []) ∷ []
 productions p.DeclarationTail =
     (word t.CloseBrace ∷ []) ∷
-    (part p.Declaration ∷ part p.DeclarationTail ∷ []) ∷ []
+    (Open p.Declaration ∷ Open p.DeclarationTail ∷ []) ∷ []
 -- decl = "global" NAME ":" ctype ";"
 --      | "array" NAME "[" keys "]" props
 --      | "entity" NAME [ "[" keys "]" ] props
 productions p.Declaration =
-    (word t.Global ∷ name ∷ word t.Colon ∷ part p.CellType ∷ word t.Semicolon ∷ []) ∷
-    (word t.Array ∷ name ∷ word t.OpenBracket ∷ part p.Key ∷ part p.KeyTail ∷ part p.Properties ∷ []) ∷
-    (word t.Entity ∷ name ∷ part p.EntityKeys ∷ part p.Properties ∷ []) ∷ []
+    (word t.Global ∷ name ∷ word t.Colon ∷ Open p.CellType ∷ word t.Semicolon ∷ []) ∷
+    (word t.Array ∷ name ∷ word t.OpenBracket ∷ Open p.Key ∷ Open p.KeyTail ∷ Open p.Properties ∷ []) ∷
+    (word t.Entity ∷ name ∷ Open p.EntityKeys ∷ Open p.Properties ∷ []) ∷ []
 productions p.EntityKeys =
     [] ∷
-    (word t.OpenBracket ∷ part p.Key ∷ part p.KeyTail ∷ []) ∷ []
+    (word t.OpenBracket ∷ Open p.Key ∷ Open p.KeyTail ∷ []) ∷ []
 -- key = NAME ":" ktype
-productions p.Key = (name ∷ word t.Colon ∷ part p.KeyType ∷ []) ∷ []
+productions p.Key = (name ∷ word t.Colon ∷ Open p.KeyType ∷ []) ∷ []
 -- ktype = "int" | "string" | NAME
 productions p.KeyType =
     (word t.Int ∷ []) ∷
@@ -52,32 +50,32 @@ productions p.KeyType =
 -- keys = key { "," key }
 productions p.KeyTail =
     (word t.CloseBracket ∷ []) ∷
-    (word t.Comma ∷ part p.Key ∷ part p.KeyTail ∷ []) ∷ []
+    (word t.Comma ∷ Open p.Key ∷ Open p.KeyTail ∷ []) ∷ []
 -- props = "{" [ prop { ";" prop } [ ";" ] ] "}"
-productions p.Properties = (word t.OpenBrace ∷ part p.PropertiesInside ∷ []) ∷ []
+productions p.Properties = (word t.OpenBrace ∷ Open p.PropertiesInside ∷ []) ∷ []
 productions p.PropertiesInside =
     (word t.CloseBrace ∷ []) ∷
-    (part p.Property ∷ part p.PropertyTail ∷ []) ∷ []
+    (Open p.Property ∷ Open p.PropertyTail ∷ []) ∷ []
 productions p.PropertyTail =
     (word t.CloseBrace ∷ []) ∷
-    (word t.Semicolon ∷ part p.PropertiesInside ∷ []) ∷ []
+    (word t.Semicolon ∷ Open p.PropertiesInside ∷ []) ∷ []
 -- prop = NAME ":" ctype
-productions p.Property = (name ∷ word t.Colon ∷ part p.CellType ∷ []) ∷ []
+productions p.Property = (name ∷ word t.Colon ∷ Open p.CellType ∷ []) ∷ []
 -- ctype = "CInt" | "CString"
 productions p.CellType =
     (word t.CInt ∷ []) ∷
     (word t.CString ∷ []) ∷ []
 -- client = "client" NAME block
-productions p.Client = (word t.Client ∷ name ∷ part p.Block ∷ []) ∷ []
+productions p.Client = (word t.Client ∷ name ∷ Open p.Block ∷ []) ∷ []
 productions p.ClientTail =
     [] ∷
-    (part p.Client ∷ part p.ClientTail ∷ []) ∷
-    (word t.Schedule ∷ word t.OpenBrace ∷ part p.ItemTail ∷ []) ∷ []
+    (Open p.Client ∷ Open p.ClientTail ∷ []) ∷
+    (word t.Schedule ∷ word t.OpenBrace ∷ Open p.ItemTail ∷ []) ∷ []
 -- block = "{" { stmt } "}"
-productions p.Block = (word t.OpenBrace ∷ part p.StatementTail ∷ []) ∷ []
+productions p.Block = (word t.OpenBrace ∷ Open p.StatementTail ∷ []) ∷ []
 productions p.StatementTail =
     (word t.CloseBrace ∷ []) ∷
-    (part p.Statement ∷ part p.StatementTail ∷ []) ∷ []
+    (Open p.Statement ∷ Open p.StatementTail ∷ []) ∷ []
 -- stmt = "var" NAME "=" expr ";"
 --      | "var" NAME "=" "new" NAME [ "[" exprs "]" ] ";"
 --      | NAME "=" expr ";"
@@ -93,64 +91,64 @@ productions p.StatementTail =
 productions p.Statement =
     (word t.Yield ∷ word t.Semicolon ∷ []) ∷
     (word t.Flush ∷ word t.Semicolon ∷ []) ∷
-    (word t.Print ∷ part p.Expression ∷ word t.Semicolon ∷ []) ∷
+    (word t.Print ∷ Open p.Expression ∷ word t.Semicolon ∷ []) ∷
     (word t.Delete ∷ name ∷ word t.Semicolon ∷ []) ∷
-    (word t.Var ∷ name ∷ word t.Assign ∷ part p.Initializer ∷ []) ∷
-    (name ∷ part p.AfterName ∷ []) ∷
-    (word t.If ∷ part p.Expression ∷ part p.Block ∷ part p.Else ∷ []) ∷
-    (word t.While ∷ part p.Expression ∷ part p.Block ∷ []) ∷
-    (word t.Foreach ∷ name ∷ part p.ForeachTail ∷ []) ∷ []
+    (word t.Var ∷ name ∷ word t.Assign ∷ Open p.Initializer ∷ []) ∷
+    (name ∷ Open p.AfterName ∷ []) ∷
+    (word t.If ∷ Open p.Expression ∷ Open p.Block ∷ Open p.Else ∷ []) ∷
+    (word t.While ∷ Open p.Expression ∷ Open p.Block ∷ []) ∷
+    (word t.Foreach ∷ name ∷ Open p.ForeachTail ∷ []) ∷ []
 productions p.Initializer =
-    (part p.Expression ∷ word t.Semicolon ∷ []) ∷
-    (word t.New ∷ name ∷ part p.NewKeys ∷ word t.Semicolon ∷ []) ∷ []
+    (Open p.Expression ∷ word t.Semicolon ∷ []) ∷
+    (word t.New ∷ name ∷ Open p.NewKeys ∷ word t.Semicolon ∷ []) ∷ []
 productions p.NewKeys =
     [] ∷
-    (word t.OpenBracket ∷ part p.Expression ∷ part p.ExpressionTail ∷ []) ∷ []
+    (word t.OpenBracket ∷ Open p.Expression ∷ Open p.ExpressionTail ∷ []) ∷ []
 productions p.AfterName =
-    (word t.Assign ∷ part p.Expression ∷ word t.Semicolon ∷ []) ∷
-    (word t.Dot ∷ part p.AfterDot ∷ []) ∷
-    (word t.OpenBracket ∷ part p.Expression ∷ part p.ExpressionTail ∷ word t.Dot ∷ name ∷ word t.Dot ∷ part p.Change ∷ []) ∷ []
+    (word t.Assign ∷ Open p.Expression ∷ word t.Semicolon ∷ []) ∷
+    (word t.Dot ∷ Open p.AfterDot ∷ []) ∷
+    (word t.OpenBracket ∷ Open p.Expression ∷ Open p.ExpressionTail ∷ word t.Dot ∷ name ∷ word t.Dot ∷ Open p.Change ∷ []) ∷ []
 productions p.AfterDot =
-    (part p.Change ∷ []) ∷
-    (name ∷ word t.Dot ∷ part p.Change ∷ []) ∷ []
-productions p.Change = (part p.Operation ∷ word t.OpenParen ∷ part p.Expression ∷ word t.CloseParen ∷ word t.Semicolon ∷ []) ∷ []
+    (Open p.Change ∷ []) ∷
+    (name ∷ word t.Dot ∷ Open p.Change ∷ []) ∷ []
+productions p.Change = (Open p.Operation ∷ word t.OpenParen ∷ Open p.Expression ∷ word t.CloseParen ∷ word t.Semicolon ∷ []) ∷ []
 -- op = "add" | "set" | "setIfEmpty"
 productions p.Operation =
     (word t.Add ∷ []) ∷
     (word t.Set ∷ []) ∷
     (word t.SetIfEmpty ∷ []) ∷ []
 productions p.ForeachTail =
-    (word t.In ∷ part p.ForeachIn ∷ []) ∷
-    (word t.Comma ∷ name ∷ part p.NameTail ∷ []) ∷ []
+    (word t.In ∷ Open p.ForeachIn ∷ []) ∷
+    (word t.Comma ∷ name ∷ Open p.NameTail ∷ []) ∷ []
 productions p.ForeachIn =
-    (word t.All ∷ name ∷ part p.Block ∷ []) ∷
-    (part p.Entries ∷ []) ∷ []
+    (word t.All ∷ name ∷ Open p.Block ∷ []) ∷
+    (Open p.Entries ∷ []) ∷ []
 productions p.NameTail =
-    (word t.In ∷ part p.Entries ∷ []) ∷
-    (word t.Comma ∷ name ∷ part p.NameTail ∷ []) ∷ []
-productions p.Entries = (word t.Entries ∷ name ∷ word t.Dot ∷ name ∷ part p.Block ∷ []) ∷ []
+    (word t.In ∷ Open p.Entries ∷ []) ∷
+    (word t.Comma ∷ name ∷ Open p.NameTail ∷ []) ∷ []
+productions p.Entries = (word t.Entries ∷ name ∷ word t.Dot ∷ name ∷ Open p.Block ∷ []) ∷ []
 productions p.Else =
     [] ∷
-    (word t.Else ∷ part p.Block ∷ []) ∷ []
+    (word t.Else ∷ Open p.Block ∷ []) ∷ []
 -- expr = conj { "or" conj }
-productions p.Expression = (part p.Conjunction ∷ part p.OrTail ∷ []) ∷ []
+productions p.Expression = (Open p.Conjunction ∷ Open p.OrTail ∷ []) ∷ []
 productions p.OrTail =
     [] ∷
-    (word t.Or ∷ part p.Conjunction ∷ part p.OrTail ∷ []) ∷ []
+    (word t.Or ∷ Open p.Conjunction ∷ Open p.OrTail ∷ []) ∷ []
 -- conj = neg { "and" neg }
-productions p.Conjunction = (part p.Negation ∷ part p.AndTail ∷ []) ∷ []
+productions p.Conjunction = (Open p.Negation ∷ Open p.AndTail ∷ []) ∷ []
 productions p.AndTail =
     [] ∷
-    (word t.And ∷ part p.Negation ∷ part p.AndTail ∷ []) ∷ []
+    (word t.And ∷ Open p.Negation ∷ Open p.AndTail ∷ []) ∷ []
 -- neg = "not" neg | comp
 productions p.Negation =
-    (part p.Comparison ∷ []) ∷
-    (word t.Not ∷ part p.Negation ∷ []) ∷ []
+    (Open p.Comparison ∷ []) ∷
+    (word t.Not ∷ Open p.Negation ∷ []) ∷ []
 -- comp = sum [ cmp sum ]
-productions p.Comparison = (part p.Sum ∷ part p.ComparisonTail ∷ []) ∷ []
+productions p.Comparison = (Open p.Sum ∷ Open p.ComparisonTail ∷ []) ∷ []
 productions p.ComparisonTail =
     [] ∷
-    (part p.Comparator ∷ part p.Sum ∷ []) ∷ []
+    (Open p.Comparator ∷ Open p.Sum ∷ []) ∷ []
 -- cmp = "==" | "!=" | "<" | "<=" | ">" | ">="
 productions p.Comparator =
     (word t.Equal ∷ []) ∷
@@ -160,19 +158,19 @@ productions p.Comparator =
     (word t.Greater ∷ []) ∷
     (word t.GreaterOrEqual ∷ []) ∷ []
 -- sum = term { ( "+" | "-" | "++" ) term }
-productions p.Sum = (part p.Term ∷ part p.SumTail ∷ []) ∷ []
+productions p.Sum = (Open p.Term ∷ Open p.SumTail ∷ []) ∷ []
 productions p.SumTail =
     [] ∷
-    (part p.SumOperator ∷ part p.Term ∷ part p.SumTail ∷ []) ∷ []
+    (Open p.SumOperator ∷ Open p.Term ∷ Open p.SumTail ∷ []) ∷ []
 productions p.SumOperator =
     (word t.Plus ∷ []) ∷
     (word t.Minus ∷ []) ∷
     (word t.Concat ∷ []) ∷ []
 -- term = factor { ( "*" | "/" | "%" ) factor }
-productions p.Term = (part p.Factor ∷ part p.TermTail ∷ []) ∷ []
+productions p.Term = (Open p.Factor ∷ Open p.TermTail ∷ []) ∷ []
 productions p.TermTail =
     [] ∷
-    (part p.TermOperator ∷ part p.Factor ∷ part p.TermTail ∷ []) ∷ []
+    (Open p.TermOperator ∷ Open p.Factor ∷ Open p.TermTail ∷ []) ∷ []
 productions p.TermOperator =
     (word t.Times ∷ []) ∷
     (word t.Divide ∷ []) ∷
@@ -186,26 +184,26 @@ productions p.Factor =
     (word t.True ∷ []) ∷
     (word t.False ∷ []) ∷
     (word t.Alive ∷ name ∷ []) ∷
-    (name ∷ part p.PlaceTail ∷ []) ∷
-    (word t.OpenParen ∷ part p.Expression ∷ word t.CloseParen ∷ []) ∷
-    (word t.Minus ∷ part p.Factor ∷ []) ∷ []
+    (name ∷ Open p.PlaceTail ∷ []) ∷
+    (word t.OpenParen ∷ Open p.Expression ∷ word t.CloseParen ∷ []) ∷
+    (word t.Minus ∷ Open p.Factor ∷ []) ∷ []
 -- place = NAME | NAME "." NAME | NAME "[" exprs "]" "." NAME
 productions p.PlaceTail =
     [] ∷
     (word t.Dot ∷ name ∷ []) ∷
-    (word t.OpenBracket ∷ part p.Expression ∷ part p.ExpressionTail ∷ word t.Dot ∷ name ∷ []) ∷ []
+    (word t.OpenBracket ∷ Open p.Expression ∷ Open p.ExpressionTail ∷ word t.Dot ∷ name ∷ []) ∷ []
 -- exprs = expr { "," expr }
 productions p.ExpressionTail =
     (word t.CloseBracket ∷ []) ∷
-    (word t.Comma ∷ part p.Expression ∷ part p.ExpressionTail ∷ []) ∷ []
+    (word t.Comma ∷ Open p.Expression ∷ Open p.ExpressionTail ∷ []) ∷ []
 -- schedule = "schedule" "{" { item } "}"
 productions p.ItemTail =
     (word t.CloseBrace ∷ []) ∷
-    (part p.Item ∷ part p.ItemTail ∷ []) ∷ []
+    (Open p.Item ∷ Open p.ItemTail ∷ []) ∷ []
 -- item = NAME NUMBER ";" | "serve" NAME fate ";"
 productions p.Item =
     (name ∷ number ∷ word t.Semicolon ∷ []) ∷
-    (word t.Serve ∷ name ∷ part p.Fate ∷ word t.Semicolon ∷ []) ∷ []
+    (word t.Serve ∷ name ∷ Open p.Fate ∷ word t.Semicolon ∷ []) ∷ []
 -- fate = "pass" | "losepush" | "losereply" | "twice" | "hold"
 productions p.Fate =
     (word t.Pass ∷ []) ∷

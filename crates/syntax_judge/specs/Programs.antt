@@ -7,7 +7,7 @@ use Rattle.source_tokens.specs.Terminals.{reserved, words}
 use Rattle.source_tokens.specs.declared.token.Placed.{Placed}
 use Rattle.source_tokens.specs.declared.token.Token.{Token}
 use Rattle.source_tokens.specs.declared.token.Token.TheVariants.{Name, Number, Text, Fixed}
-use Rattle.syntax_judge.specs.Grammar.{part, productions}
+use Rattle.syntax_judge.specs.Grammar.{productions}
 use Rattle.syntax_judge.specs.declared.kind.Kind.{Kind}
 use Rattle.syntax_judge.specs.declared.kind.Kind.TheVariants as k
 use Rattle.syntax_judge.specs.declared.symbol.Part.{Part}
@@ -16,6 +16,7 @@ use Rattle.syntax_judge.specs.declared.symbol.Symbol.{Symbol}
 use Rattle.syntax_judge.specs.declared.symbol.Symbol.TheVariants as s
 use Rattle.syntax_judge.specs.declared.verdict.Verdict.{Verdict}
 use Rattle.syntax_judge.specs.declared.verdict.Verdict.TheVariants as v
+use Rattle.syntax_judge.specs.declared.symbol.Symbol.TheVariants.{Open}
 
 -- what syntax sees of a token
 abbrev pub kind_of : Token → Kind
@@ -24,8 +25,8 @@ kind_of (Number number) = k.Number
 kind_of (Text text) = k.Text
 kind_of (Fixed terminal) = k.Fixed terminal
 
-abbrev pub kinds_of : List Placed → List Kind
-kinds_of tokens = map kind_of (tokens_of tokens)
+abbrev pub kinds_in : List Placed → List Kind
+kinds_in tokens = map kind_of (tokens_of tokens)
 
 abbrev pub IsOneOf : {A : Type 0} → A → List A → Type 0
 IsOneOf a [] = ⊥
@@ -39,7 +40,7 @@ pub data Derives : List Symbol → List Kind → Type 0 where
   becomes : (p : Part) (way symbols : List Symbol) (kinds : List Kind) → IsOneOf way (productions p) → Derives (way ++ symbols) kinds → Derives (s.Open p ∷ symbols) kinds
 
 abbrev pub start : List Symbol
-start = part p.Program ∷ []
+start = Open p.Program ∷ []
 
 -- tokens of these kinds are a program
 abbrev pub IsProgram : List Kind → Type 0
@@ -57,7 +58,7 @@ JudgeAnswers kinds (v.FailsAt n) = (n < length kinds) × Begins (take n kinds) �
 JudgeAnswers kinds v.EndsTooSoon = Begins kinds × (¬ IsProgram kinds)
 
 -- a smallest program: no declaration, and one client with nothing to do
-pub example_program : IsProgram (kinds_of (scan (codes "schema {} client c {}")).tokens)
+pub example_program : IsProgram (kinds_in (scan (codes "schema {} client c {}")).tokens)
 unfolding scan_behind lexeme_at reserved words
 example_program =
     becomes p.Program _ _ _ (inl refl)
@@ -72,6 +73,6 @@ example_program =
     (takes _ _ _ (becomes p.ClientTail _ _ _ (inl refl) nothing))))))))))))
 
 -- what stands before the braces begins a program
-pub example_begins : Begins (kinds_of (scan (codes "schema {} client c")).tokens)
+pub example_begins : Begins (kinds_in (scan (codes "schema {} client c")).tokens)
 unfolding scan_behind lexeme_at reserved words
-example_begins = (kinds_of (scan (codes "{}")).tokens, example_program)
+example_begins = (kinds_in (scan (codes "{}")).tokens, example_program)

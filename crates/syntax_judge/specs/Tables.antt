@@ -8,7 +8,7 @@ use Rattle.source_tokens.specs.Lexemes.{lexeme_at}
 use Rattle.source_tokens.specs.Scans.{scan, scan_behind}
 use Rattle.source_tokens.specs.Terminals.{reserved, words}
 use Rattle.syntax_judge.specs.Grammar.{productions}
-use Rattle.syntax_judge.specs.Programs.{start, kinds_of}
+use Rattle.syntax_judge.specs.Programs.{start, kinds_in}
 use Rattle.syntax_judge.specs.declared.kind.Kind.{Kind}
 use Rattle.syntax_judge.specs.declared.kind.Kind.TheVariants as k
 use Rattle.syntax_judge.specs.declared.symbol.Symbol.{Symbol}
@@ -73,27 +73,27 @@ abbrev pub advance : List Symbol → Kind → Option (List Symbol)
 advance = advance_by table
 
 -- the verdict on tokens of these kinds, the first of which has this place, before this stack
-abbrev pub judged_from : ℕ → List Symbol → List Kind → Verdict
-judged_from n stack [] = if are_nullable stack then v.Accepted else v.EndsTooSoon
-judged_from n stack (kind ∷ kinds) = elim (advance stack kind) [
-  | Some after ↦ judged_from (n + 1) after kinds
+abbrev pub verdict_from : ℕ → List Symbol → List Kind → Verdict
+verdict_from n stack [] = if are_nullable stack then v.Accepted else v.EndsTooSoon
+verdict_from n stack (kind ∷ kinds) = elim (advance stack kind) [
+  | Some after ↦ verdict_from (n + 1) after kinds
   | None ↦ v.FailsAt n
 ]
 
-abbrev pub judged : List Kind → Verdict
-judged kinds = judged_from 0 start kinds
+abbrev pub verdict_of : List Kind → Verdict
+verdict_of kinds = verdict_from 0 start kinds
 
 -- what a try answers and leaves of the stack, whose top is the end of the list here
-abbrev pub took : List Symbol → Option (List Symbol) → Bool × List Symbol
-took below (Some left) = (true, below ++ reverse left)
-took below None = (false, below)
+abbrev pub outcome : List Symbol → Option (List Symbol) → Bool × List Symbol
+outcome below (Some left) = (true, below ++ reverse left)
+outcome below None = (false, below)
 
-abbrev pub told : Bool → List Symbol → Option (List Symbol)
-told true stack = Some stack
-told false stack = None
+abbrev pub if_found : Bool → List Symbol → Option (List Symbol)
+if_found true stack = Some stack
+if_found false stack = None
 
 abbrev judged_text : List ℕ → Verdict
-judged_text text = judged (kinds_of (scan text).tokens)
+judged_text text = verdict_of (kinds_in (scan text).tokens)
 
 pub example_accepted : judged_text (codes "schema {} client c { print 1 + 2 < 4; }") ≡ v.Accepted
 unfolding table_at scan_behind lexeme_at reserved words

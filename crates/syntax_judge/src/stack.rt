@@ -1,6 +1,6 @@
 // A stack of the symbols that are still open.
 ghost use Rattle.std.specs.Prelude.{◌≡◌, ◌++◌, IfOk, reverse};
-ghost use Rattle.syntax_judge.specs.Tables.{is_same_kind, is_nullable, are_nullable, table_at, advance_by, advance, took, told};
+ghost use Rattle.syntax_judge.specs.Tables.{is_same_kind, is_nullable, are_nullable, table_at, advance_by, advance, outcome, if_found};
 
 use crate::grammar::productions;
 use crate::kind::Kind;
@@ -55,7 +55,7 @@ fn push_all(stack: &mut Vec<Symbol>, symbols: &[Symbol]) -> Result<(), Memory>
 #[cycle(take)]
 fn take(depth: u8, stack: &mut Vec<Symbol>, symbol: Symbol, kind: Kind) -> Result<bool, Memory>
     ensures { IfOk result (λ found. (found, stack.new.items)
-        ≡ took stack.old.items (table_at depth symbol kind)) }
+        ≡ outcome stack.old.items (table_at depth symbol kind)) }
 {
     match symbol {
         Symbol::Token(wanted) => Ok(is_same(wanted, kind)),
@@ -77,7 +77,7 @@ fn take(depth: u8, stack: &mut Vec<Symbol>, symbol: Symbol, kind: Kind) -> Resul
 #[cycle(take)]
 fn take_way(depth: u8, stack: &mut Vec<Symbol>, way: &[Symbol], kind: Kind) -> Result<bool, Memory>
     ensures { IfOk result (λ found. (found, stack.new.items)
-        ≡ took stack.old.items (advance_by (table_at depth) way.now kind)) }
+        ≡ outcome stack.old.items (advance_by (table_at depth) way.now kind)) }
 {
     let below = stack.len();
     for (i, symbol) in way.iter().enumerate() {
@@ -96,7 +96,7 @@ fn take_way(depth: u8, stack: &mut Vec<Symbol>, way: &[Symbol], kind: Kind) -> R
 /// Takes a token from the stack; no, where nothing on it can begin with that.
 pub fn take_token(stack: &mut Vec<Symbol>, kind: Kind) -> Result<bool, Memory>
     ensures { IfOk result (λ found.
-        advance (reverse stack.old.items) kind ≡ told found (reverse stack.new.items)) }
+        advance (reverse stack.old.items) kind ≡ if_found found (reverse stack.new.items)) }
 {
     while let Some(symbol) = stack.pop() {
         if take(MOST_DEEP, stack, symbol, kind)? {

@@ -22,6 +22,7 @@ use Rattle.syntax_judge.specs.declared.symbol.Part.{Part}
 use Rattle.syntax_judge.specs.declared.symbol.Part.TheVariants as p
 use Rattle.syntax_judge.specs.declared.symbol.Symbol.{Symbol}
 use Rattle.syntax_judge.specs.declared.symbol.Symbol.TheVariants as s
+use Rattle.syntax_judge.specs.declared.symbol.Symbol.TheVariants.{Open}
 
 -- something is spelled so
 abbrev pub Some_tree : {A : Type 0} → (A → List Token → Type 0) → List Token → Type 0

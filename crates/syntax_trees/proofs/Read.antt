@@ -10,6 +10,7 @@ use Rattle.syntax_judge.specs.declared.symbol.Part.{Part}
 use Rattle.syntax_judge.specs.declared.symbol.Symbol.{Symbol}
 use Rattle.syntax_judge.specs.declared.symbol.Symbol.TheVariants as s
 use Rattle.syntax_trees.proofs.Means.{Means, Takes, Gives, AllGive}
+use Rattle.syntax_judge.specs.declared.symbol.Symbol.TheVariants.{Open}
 
 -- ---- ways
 

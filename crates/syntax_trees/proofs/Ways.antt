@@ -24,12 +24,13 @@ use Rattle.source_tree.specs.declared.program.KeyType.TheVariants as kt
 use Rattle.source_tree.specs.declared.statement.Operation.{Operation}
 use Rattle.source_tree.specs.declared.statement.Operation.TheVariants as op
 use Rattle.source_tree.specs.declared.statement.Statement.TheVariants as st
-use Rattle.syntax_judge.specs.Grammar.{productions, part}
+use Rattle.syntax_judge.specs.Grammar.{productions}
 use Rattle.syntax_judge.specs.Programs.{Derives, kind_of}
 use Rattle.syntax_judge.specs.declared.symbol.Part.{Part}
 use Rattle.syntax_judge.specs.declared.symbol.Part.TheVariants as p
 use Rattle.syntax_trees.proofs.Means.{Some_tree, Some_expression, Some_statement, Some_each, Goes_on, Means, AllGive}
 use Rattle.syntax_trees.proofs.Read.{read}
+use Rattle.syntax_judge.specs.declared.symbol.Symbol.TheVariants.{Open}
 
 -- one more step of a chain that leans to the left
 longer : (level above : Level) (next : Expression) (w u v : List Token) → Spells level next (w ++ u) → Goes_on level above v → Some_expression above (w ++ (u ++ v))
@@ -209,5 +210,5 @@ all_give p.Item = (λ n m. (i.Steps n m, sw.steps n m), (λ n u fate. (i.Serve n
 all_give p.Fate = ((f.Pass, sw.pass), ((f.LosePush, sw.lose_push), ((f.LoseReply, sw.lose_reply), ((f.Twice, sw.twice), ((f.Hold, sw.hold), tt)))))
 
 -- tokens that are a program's to the grammar spell one
-pub program_read : (ts : List Token) → Derives (part p.Program ∷ []) (map kind_of ts) → Some_tree SpellsProgram ts
-program_read ts d = read all_give (part p.Program ∷ []) (map kind_of ts) d ts refl (Means p.Program) (λ u m. subst (Means p.Program) (sym (append-nil u)) m)
+pub program_read : (ts : List Token) → Derives (Open p.Program ∷ []) (map kind_of ts) → Some_tree SpellsProgram ts
+program_read ts d = read all_give (Open p.Program ∷ []) (map kind_of ts) d ts refl (Means p.Program) (λ u m. subst (Means p.Program) (sym (append-nil u)) m)
