@@ -1,0 +1,12 @@
+mod Heights
+mod Chains
+mod Steps
+mod Stops
+mod Parts
+mod Turns
+mod Lists
+mod Expressions
+mod Bodies
+mod Blocks
+mod Programs
+mod Unique
