@@ -1,47 +1,85 @@
 -- What parsing a text answers.
-use Rattle.std.specs.Prelude.{refl, codes, ℕ, ◌<◌, ◌≤◌, true, is_none, List, [], ◌∷◌, length, Result, Ok, Err}
-use Rattle.std.proofs.Common.{lit≤, lit<, ap, true≢false, not-suc-le-zero}
-use Rattle.cloud_parse.specs.Form.{Form, HasForm}
-use Rattle.cloud_parse.specs.Tokens.{tokens_behind, lexeme_at}
-use Rattle.cloud_parse.specs.declared.tree.Act.TheVariants.{Change, Print, Yield}
-use Rattle.cloud_parse.specs.declared.tree.Operation.TheVariants.{Add}
+use Rattle.std.specs.Prelude.{◌≡◌, ℕ, ◌<◌, ◌≤◌, Bool, true, false, nat_lt, ⊤, List, length, Option, Some, None, Result, Ok, Err}
+use Rattle.std.specs.List.{AllByRecursion}
+use Rattle.cloud_base.specs.Values.{most_clients}
+use Rattle.source_tokens.specs.Brackets.{most_open}
+use Rattle.source_tokens.specs.Positions.{position_of}
+use Rattle.source_tokens.specs.Scans.{scan, tokens_of}
+use Rattle.source_tokens.specs.declared.position.Position.{Position}
+use Rattle.source_tree.specs.Limits.{IsNumber, IsShort, IsLow, names_count, steps_count, most_names, most_steps}
+use Rattle.source_tree.specs.Programs.{SpellsProgram}
+use Rattle.source_tree.specs.Words.{program_words, numbers_of, texts_of}
+use Rattle.source_tree.specs.declared.program.Program.{Program}
+use Rattle.syntax_judge.specs.Faults.{SyntaxFault}
 use Rattle.cloud_parse.specs.declared.fault.ParseFault.{ParseFault}
 use Rattle.cloud_parse.specs.declared.fault.ParseFault.TheVariants as fault
+use Rattle.cloud_parse.specs.declared.fault.Which.{Which}
 use Rattle.cloud_parse.specs.declared.fault.Which.TheVariants as which
 
 -- the most bytes of a text
 abbrev pub most_source_bytes : ℕ
 most_source_bytes = 262144
 
--- the tree of a text of no more bytes than that; else the first that is wrong; and want of memory, which may come at any time
-abbrev pub ParseAnswers : List ℕ → Result Form ParseFault → Type 0
-ParseAnswers text (Ok f) = (length text ≤ most_source_bytes) × HasForm text f
-ParseAnswers text (Err (fault.Limit which.Bytes)) = most_source_bytes < length text
-ParseAnswers text (Err (fault.Limit which.Form)) = (length text ≤ most_source_bytes) × ((f : Form) → HasForm text f → ⊥)
-ParseAnswers text (Err fault.Memory) = Unit {0}
+-- the most brackets that may be open
+abbrev pub most_brackets : ℕ
+most_brackets = 64
 
--- the smallest source has its tree
-pub example_smallest : ParseAnswers (codes "schema { } client a { }") (Ok (record { globals = []; client = codes "a"; acts = [] }))
-unfolding tokens_behind lexeme_at
-example_smallest = (lit≤ tt, record { form = record { few = lit≤ tt; names = tt; different = tt; client = refl; acts = tt }; written = refl })
+-- the text is read whole, and its tokens spell the program
+pub record HasTree (text : List ℕ) (p : Program) : Type 0 where
+  pub whole : (scan text).fault ≡ None
+  pub spelled : SpellsProgram p (tokens_of (scan text).tokens)
 
--- so has a source with a global and acts on it
-pub example_parsed : ParseAnswers (codes "schema { global g : CInt; } client a { g.add(-2); print g; yield; }")
-    (Ok (record { globals = codes "g" ∷ []; client = codes "a"; acts = Change 0 Add (record { minus = true; number = 2 }) ∷ Print 0 ∷ Yield ∷ [] }))
-unfolding tokens_behind lexeme_at
-example_parsed = (
-  lit≤ tt,
-  record {
-    form = record { few = lit≤ tt; names = (refl, tt); different = (refl, tt); client = refl; acts = ((lit< tt, lit< tt), (lit< tt, (tt, tt))) };
-    written = refl;
-  },
-)
+-- the text isn't too long, and not too many brackets are open in it
+pub record IsReadable (text : List ℕ) : Type 0 where
+  pub bytes : length text ≤ most_source_bytes
+  pub brackets : most_open 0 (tokens_of (scan text).tokens) ≤ most_brackets
 
--- a byte that begins no token leaves a text without a tree
-pub example_refused : ParseAnswers (codes "schema { } client a { ! }") (Err (fault.Limit which.Form))
-unfolding tokens_behind lexeme_at
-example_refused = (lit≤ tt, λ f h. true≢false (ap is_none h.written))
+-- what a limit asks of a program
+abbrev pub Keeps : Which → Program → Type 0
+Keeps which.Bytes p = ⊤
+Keeps which.Brackets p = ⊤
+Keeps which.Number p = AllByRecursion IsNumber (numbers_of (program_words p))
+Keeps which.Text p = AllByRecursion IsShort (texts_of (program_words p))
+Keeps which.Height p = AllByRecursion IsLow p.clients
+Keeps which.Names p = names_count p.declarations ≤ most_names
+Keeps which.Clients p = length p.clients ≤ most_clients
+Keeps which.Steps p = steps_count p.schedule ≤ most_steps
 
--- the empty text isn't too long, so it is never refused for its length
-pub example_not_too_long : ParseAnswers [] (Err (fault.Limit which.Bytes)) → ⊥
-example_not_too_long = not-suc-le-zero
+-- the program keeps the limits that stand before this one
+abbrev pub KeepsBefore : Which → Program → Type 0
+KeepsBefore which.Bytes p = ⊤
+KeepsBefore which.Brackets p = ⊤
+KeepsBefore which.Number p = ⊤
+KeepsBefore which.Text p = Keeps which.Number p
+KeepsBefore which.Height p = Keeps which.Number p × Keeps which.Text p
+KeepsBefore which.Names p = Keeps which.Number p × Keeps which.Text p × Keeps which.Height p
+KeepsBefore which.Clients p = Keeps which.Number p × Keeps which.Text p × Keeps which.Height p × Keeps which.Names p
+KeepsBefore which.Steps p = Keeps which.Number p × Keeps which.Text p × Keeps which.Height p × Keeps which.Names p × Keeps which.Clients p
+
+-- the first limit that the text's program breaks
+pub record BreaksFirst (w : Which) (text : List ℕ) : Type 0 where
+  pub readable : IsReadable text
+  pub program : Program
+  pub tree : HasTree text program
+  pub before : KeepsBefore w program
+  pub broken : ¬ Keeps w program
+
+-- a limit is told: of the length, of the open brackets, or of the program
+abbrev pub TellsLimit : Which → List ℕ → Type 0
+TellsLimit which.Bytes text = most_source_bytes < length text
+TellsLimit which.Brackets text = (length text ≤ most_source_bytes) × (most_brackets < most_open 0 (tokens_of (scan text).tokens))
+TellsLimit w text = BreaksFirst w text
+
+-- the position of the syntax fault of a text that no program has
+pub record TellsSyntax (text : List ℕ) (position : Position) : Type 0 where
+  pub readable : IsReadable text
+  pub none : (p : Program) → ¬ HasTree text p
+  pub place : (at : ℕ) × SyntaxFault text at × (position ≡ position_of text at)
+
+-- What parsing a text answers: its tree and the lines of its items; else the first that is wrong; and want of memory,
+-- which may come at any time.
+abbrev pub ParseAnswers : List ℕ → Result Parsed ParseFault → Type 0
+ParseAnswers text (Ok parsed) = IsReadable text × HasTree text parsed.tree × IsWithin parsed.tree × (parsed.lines ≡ item_lines (scan text).tokens)
+ParseAnswers text (Err (fault.Limit w)) = TellsLimit w text
+ParseAnswers text (Err (fault.Syntax line column)) = TellsSyntax text (record { line = line; column = column })
+ParseAnswers text (Err fault.Memory) = ⊤

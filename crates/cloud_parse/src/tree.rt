@@ -1,95 +1,75 @@
-// The tree of a source.
-ghost use Rattle.std.specs.Prelude.{◌≡◌, ◌<◌, ◌^◌};
-ghost use Rattle.cloud_parse.specs.Form.{Form, IsForm, amount_value};
+// The tree of accepted tokens.
+ghost use Rattle.std.specs.Prelude.{◌≡◌, ◌≤◌, None, Some, IfOk, IfErr, MatchOption, length};
+ghost use Rattle.std.specs.List.{AllByRecursion};
+ghost use Rattle.source_tokens.specs.Brackets.{most_open};
+ghost use Rattle.source_tokens.specs.Scans.{tokens_of, IsToken};
+ghost use Rattle.source_tree.specs.Limits.{IsTree, IsWithin};
+ghost use Rattle.source_tree.specs.Programs.{SpellsProgram};
+ghost use Rattle.source_tree.specs.declared.program.Program.{Program};
+ghost use Rattle.syntax_trees.specs.Trees.{HasTree};
+ghost use Rattle.cloud_parse.specs.Parse.{Keeps, KeepsBefore, TreeFault};
+ghost use Rattle.cloud_parse.specs.declared.fault.Which.TheVariants as which;
 
-use cloud_base::{Name, Sequence};
-use std::marker::Model;
+use crate::fault::{ParseFault, Which};
+use crate::limits::{are_names_few, are_numbers_small, are_steps_few, are_texts_short};
+use source_reader::read;
+use source_tokens::Placed;
+use source_tree::{Program, Tree};
+use std::alloc::Global;
 
-/// The most globals of a source.
-pub const MOST_GLOBALS: usize = 256;
+const MOST_CLIENTS: usize = 8;
 
-/// What an act does to a global.
-#[derive(Clone, Copy, Debug, PartialEq, Eq)]
-pub enum Operation {
-    Add,
-    Set,
-}
-
-/// A number of an act, as it is written.
-#[derive(Clone, Copy, Debug, PartialEq, Eq)]
-pub struct Amount {
-    pub minus: bool,
-    pub number: u64,
-}
-
-impl Amount {
-    /// The number with its sign.
-    pub fn value(&self) -> i64
-        requires { self.now.number < 2 ^ 63 }
-        ensures { result ≡ amount_value self.now }
-    {
-        let number = self.number as i64;
-        if self.minus { -number } else { number }
+// The first limit that numbers and texts break.
+fn broken_by_words(tokens: &[Placed]) -> Option<Which>
+    ensures { (p : Program) → SpellsProgram p (tokens_of tokens.now)
+        → MatchOption result (Keeps which.Number p × Keeps which.Text p)
+            (λ w. KeepsBefore w p × ¬ Keeps w p) }
+{
+    if !are_numbers_small(tokens) {
+        return Some(Which::Number);
     }
-}
-
-/// One statement of the body. A global goes by its place among the globals, from 0.
-#[derive(Clone, Copy, Debug, PartialEq, Eq)]
-pub enum Act {
-    Change(u16, Operation, Amount),
-    Print(u16),
-    Yield,
-}
-
-/// The tree of a source with one client over integer globals.
-#[derive(Debug, Drop)]
-pub struct Tree {
-    globals: Sequence<Name>,
-    client: Name,
-    acts: Sequence<Act>,
-}
-
-impl Model for Tree {
-    ghost use Rattle.cloud_parse.specs.Form.{Form, IsForm};
-
-    ghost Value = { Form };
-
-    ghost view = { λ t. record { globals = t.globals; client = t.client; acts = t.acts } };
-
-    ghost invariant = { λ t. IsForm record { globals = t.globals; client = t.client; acts = t.acts } };
-}
-
-impl Tree {
-    pub(crate) fn new(globals: Sequence<Name>, client: Name, acts: Sequence<Act>) -> Tree
-        requires { IsForm record { globals = globals; client = client; acts = acts } }
-        ensures form { IsForm result }
-        ensures tree { result ≡ record { globals = globals; client = client; acts = acts } }
-    {
-        Tree {
-            globals,
-            client,
-            acts,
-        }
+    if !are_texts_short(tokens) {
+        return Some(Which::Text);
     }
+    None
+}
 
-    pub fn globals(&self) -> &[Name]
-        ensures form { IsForm self.now }
-        ensures globals { result.now ≡ self.now.globals }
-    {
-        self.globals.as_slice()
+// The first limit that names, clients and the schedule break.
+fn broken_by_counts(program: &Program) -> Option<Which>
+    ensures { Keeps which.Number program.now × Keeps which.Text program.now
+        × Keeps which.Height program.now
+        → MatchOption result (IsWithin program.now)
+            (λ w. KeepsBefore w program.now × ¬ Keeps w program.now) }
+{
+    if !are_names_few(program.declarations.as_slice()) {
+        return Some(Which::Names);
     }
-
-    pub fn client(&self) -> &Name
-        ensures form { IsForm self.now }
-        ensures client { result.now ≡ self.now.client }
-    {
-        &self.client
+    if program.clients.len() > MOST_CLIENTS {
+        return Some(Which::Clients);
     }
+    if !are_steps_few(program) {
+        return Some(Which::Steps);
+    }
+    None
+}
 
-    pub fn acts(&self) -> &[Act]
-        ensures form { IsForm self.now }
-        ensures acts { result.now ≡ self.now.acts }
-    {
-        self.acts.as_slice()
+/// The tree of tokens that spell a program, where it keeps the limits.
+pub fn tree_of(alloc: Global, tokens: &[Placed]) -> Result<Tree, ParseFault>
+    requires tree { HasTree (tokens_of tokens.now) }
+    requires tokens { AllByRecursion IsToken (tokens_of tokens.now) }
+    requires brackets { most_open 0 (tokens_of tokens.now) ≤ 64 }
+    ensures spelled { IfOk result (λ tree. SpellsProgram tree (tokens_of tokens.now)) }
+    ensures within { IfOk result IsWithin }
+    ensures broken { IfErr result (TreeFault (tokens_of tokens.now)) }
+{
+    if let Some(which) = broken_by_words(tokens) {
+        return Err(ParseFault::Limit(which));
+    }
+    let Some(program) = read(alloc, tokens)? else {
+        return Err(ParseFault::Limit(Which::Height));
+    };
+    match broken_by_counts(&program) {
+        Some(which) => Err(ParseFault::Limit(which)),
+        None => Ok(Tree::new(program)),
     }
 }

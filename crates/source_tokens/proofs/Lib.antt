@@ -4,3 +4,4 @@ mod Literals
 mod Opened
 pub mod Sameness
 mod Splits
+mod Scanned

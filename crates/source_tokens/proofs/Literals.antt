@@ -14,7 +14,7 @@ extended found n o = option_map (λ l. record { bytes = found ++ l.bytes; length
 abbrev pub ReadsOn : List ℕ → ℕ → Bool → List ℕ → Type 0
 ReadsOn text at escaped found = extended found at (literal_behind escaped (drop at text)) ≡ literal_behind false text
 
-abbrev by_byte : ℕ → List ℕ → InLiteral → Option Literal
+abbrev pub by_byte : ℕ → List ℕ → InLiteral → Option Literal
 by_byte b bytes q.Plain = option_map (with_byte b) (literal_behind false bytes)
 by_byte b bytes q.Backslash = option_map with_backslash (literal_behind true bytes)
 by_byte b bytes q.Close = Some (record { bytes = []; length = 1 })
@@ -34,7 +34,7 @@ same_byte b bytes q.Backslash = refl
 same_byte b bytes q.Close = refl
 same_byte b bytes q.Bad = refl
 
-of_byte : (escaped : Bool) (b : ℕ) (bytes : List ℕ) (w : InLiteral) → w ≡ judged escaped b → literal_behind escaped (b ∷ bytes) ≡ by_byte b bytes w
+pub of_byte : (escaped : Bool) (b : ℕ) (bytes : List ℕ) (w : InLiteral) → w ≡ judged escaped b → literal_behind escaped (b ∷ bytes) ≡ by_byte b bytes w
 unfolding literal_behind
 of_byte escaped b bytes w h = ap (as_byte b bytes) (sym h) ∙ same_byte b bytes w
 

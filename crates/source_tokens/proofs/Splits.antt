@@ -42,7 +42,7 @@ behind_drop at line (suc n) (b ∷ bytes) h =
     ∙ ap (λ k. scan_behind k (line_behind b line + feeds (take n bytes)) 0 (drop n bytes)) (omega arith)
     ∙ ap (λ k. scan_behind (at + suc n) k 0 (drop n bytes)) (line_on b line (take n bytes))
 
-abbrev by_lexeme : ℕ → ℕ → ℕ → List ℕ → Option Lexeme → Scan
+abbrev pub by_lexeme : ℕ → ℕ → ℕ → List ℕ → Option Lexeme → Scan
 by_lexeme at line b bytes None = record { tokens = []; fault = Some at }
 by_lexeme at line b bytes (Some l) = with_token at line l.token (scan_behind (at + 1) (line_behind b line) (l.length - 1) bytes)
 
@@ -53,7 +53,7 @@ same_scan : (at line b : ℕ) (bytes : List ℕ) (o : Option Lexeme) → as_scan
 same_scan at line b bytes None = refl
 same_scan at line b bytes (Some l) = refl
 
-of_lexeme : (at line b : ℕ) (bytes : List ℕ) (o : Option Lexeme) → lexeme_at (b ∷ bytes) ≡ o → scan_behind at line 0 (b ∷ bytes) ≡ by_lexeme at line b bytes o
+pub of_lexeme : (at line b : ℕ) (bytes : List ℕ) (o : Option Lexeme) → lexeme_at (b ∷ bytes) ≡ o → scan_behind at line 0 (b ∷ bytes) ≡ by_lexeme at line b bytes o
 unfolding scan_behind
 of_lexeme at line b bytes o h = ap (as_scan at line b bytes) h ∙ same_scan at line b bytes o
 

@@ -1,8 +1,9 @@
 -- The tokens of a text with their places, up to its first lexical fault.
-use Rattle.std.specs.Prelude.{◌≡◌, ℕ, zero, suc, ◌+◌, ◌-◌, ◌^◌, if◌then◌else◌, map, List, [], ◌∷◌, ◌++◌, codes, Option, Some, None, refl}
+use Rattle.std.specs.Prelude.{◌≡◌, ℕ, zero, suc, ◌+◌, ◌-◌, ◌^◌, ◌<◌, All, if◌then◌else◌, map, List, [], ◌∷◌, ◌++◌, codes, Option, Some, None, refl}
 use Rattle.source_tokens.specs.Lexemes.{lexeme_at, literal_behind}
 use Rattle.source_tokens.specs.Positions.{is_feed}
-use Rattle.source_tokens.specs.Terminals.{words, reserved}
+use Rattle.cloud_base.specs.Values.{IsPrintable}
+use Rattle.source_tokens.specs.Terminals.{words, reserved, IsIdentifier}
 use Rattle.source_tokens.specs.declared.terminal.Terminal.TheVariants as terminal
 use Rattle.source_tokens.specs.declared.token.Placed.{Placed}
 use Rattle.source_tokens.specs.declared.token.Scan.{Scan}
@@ -34,6 +35,13 @@ scan_behind at line zero (b ∷ bytes) = elim (lexeme_at (b ∷ bytes)) [
 -- the scan of a text
 abbrev pub scan : List ℕ → Scan
 scan text = scan_behind 0 1 0 text
+
+-- what a token of a source can be: a name is an identifier, and a text is printable
+abbrev pub IsToken : Token → Type 0
+IsToken (Name x) = IsIdentifier x
+IsToken (Number n) = n < 2 ^ 64
+IsToken (Text bytes) = All IsPrintable bytes
+IsToken (Fixed t) = Unit {0}
 
 -- the tokens alone
 abbrev pub tokens_of : List Placed → List Token

@@ -15,6 +15,6 @@ mod words;
 pub use brackets::{MOST_OPEN, has_too_many_open};
 pub use identifier::Identifier;
 pub use position::{Position, position_of};
-pub use scanner::scan;
+pub use scanner::{scan, scanned_tokens};
 pub use terminal::Terminal;
 pub use token::{Placed, Scan, Token};

@@ -1,6 +1,7 @@
 // The tokens of a text with their places.
-ghost use Rattle.std.specs.Prelude.{◌≡◌, ◌++◌, [], None, OnOk, IfOk};
-ghost use Rattle.source_tokens.specs.Scans.{scan, with_token};
+ghost use Rattle.std.specs.Prelude.{◌≡◌, ℕ, List, ◌++◌, [], None, OnOk, IfOk};
+ghost use Rattle.source_tokens.specs.Scans.{scan, with_token, tokens_of, IsToken};
+ghost use Rattle.std.specs.List.{AllByRecursion};
 
 use crate::lexeme::{Lexeme, lexeme_at};
 use crate::position::feeds;
@@ -49,3 +50,9 @@ pub fn scan(alloc: Global, text: &[u8]) -> Result<Scan, Memory>
         fault: None,
     })
 }
+
+/// The tokens of every text are what tokens of a source can be.
+#[tactic(auto, using(crate::proofs::Scanned::scanned_fit))]
+pub fn scanned_tokens()
+    ensures { (text : List ℕ) → AllByRecursion IsToken (tokens_of (scan text).tokens) }
+{}

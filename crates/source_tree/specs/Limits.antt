@@ -1,8 +1,8 @@
 -- Which programs are trees of sources: those that tokens spell and that are within the limits.
 use Rattle.std.specs.Prelude.{ℕ, ◌+◌, ◌≤◌, ◌<◌, ◌^◌, List, length, sum, map, All, Option, Some, None}
 use Rattle.std.specs.List.{AllByRecursion}
-use Rattle.cloud_base.specs.Values.{IsPrintable, most_text_bytes, most_clients}
-use Rattle.source_tokens.specs.Terminals.{IsIdentifier}
+use Rattle.cloud_base.specs.Values.{most_text_bytes, most_clients}
+use Rattle.source_tokens.specs.Scans.{IsToken}
 use Rattle.source_tokens.specs.declared.token.Token.{Token}
 use Rattle.source_tokens.specs.declared.token.Token.TheVariants.{Name, Number, Text, Fixed}
 use Rattle.source_tree.specs.declared.program.Declaration.{Declaration}
@@ -14,13 +14,6 @@ use Rattle.source_tree.specs.declared.program.Program.{Program}
 use Rattle.source_tree.specs.Heights.{body_height}
 use Rattle.source_tree.specs.Words.{program_words, numbers_of, texts_of}
 use Rattle.source_tree.specs.Programs.{SpellsProgram}
-
--- what a token of a source can hold
-abbrev pub IsToken : Token → Type 0
-IsToken (Name x) = IsIdentifier x
-IsToken (Number n) = n < 2 ^ 64
-IsToken (Text bytes) = All IsPrintable bytes
-IsToken (Fixed t) = Unit {0}
 
 -- some tokens of a source spell the program
 abbrev pub IsSpelled : Program → Type 0
