@@ -27,7 +27,7 @@ use Rattle.source_tree.specs.declared.program.Program.{Program}
 use Rattle.cloud_base.specs.declared.schedule.Fate.{Fate}
 use Rattle.cloud_base.specs.declared.schema.CellType.{CellType}
 use Rattle.source_tree.specs.Forms as f
-use Rattle.source_tree.specs.Words.{joined, words, names, statement_words, body_words, key_type_words, key_words, property_words, declaration_words, client_words, item_words, schedule_words, program_words, words_of}
+use Rattle.source_tree.specs.Words.{joined, words, names, statement_words, body_words, key_type_words, key_words, property_words, declaration_words, client_words, item_words, schedule_words, program_words, words_of, numbers_of, texts_of}
 
 append_words : (u v : List Token) → words_of (u ++ v) ≡ words_of u ++ words_of v
 append_words [] v = refl
@@ -194,3 +194,25 @@ program_spelled _ _ (p.program ds x xs plan u v w h k m) =
     ∙ ap (λ ts. words_of v ++ ts) (clients_spelled xs plan w m)
     ∙ sym (append_words v w))
     ∙ sym (append_words u (v ++ w))
+
+numbers_stay : (ts : List Token) → numbers_of (words_of ts) ≡ numbers_of ts
+numbers_stay [] = refl
+numbers_stay (Fixed w ∷ ts) = numbers_stay ts
+numbers_stay (Name x ∷ ts) = numbers_stay ts
+numbers_stay (Number n ∷ ts) = ap (λ ns. n ∷ ns) (numbers_stay ts)
+numbers_stay (Text bytes ∷ ts) = numbers_stay ts
+
+texts_stay : (ts : List Token) → texts_of (words_of ts) ≡ texts_of ts
+texts_stay [] = refl
+texts_stay (Fixed w ∷ ts) = texts_stay ts
+texts_stay (Name x ∷ ts) = texts_stay ts
+texts_stay (Number n ∷ ts) = texts_stay ts
+texts_stay (Text bytes ∷ ts) = ap (λ xs. bytes ∷ xs) (texts_stay ts)
+
+-- the numbers of a program are those of its tokens
+pub numbers_spelled : (x : Program) (u : List Token) → SpellsProgram x u → numbers_of (program_words x) ≡ numbers_of u
+numbers_spelled x u h = ap numbers_of (program_spelled x u h) ∙ numbers_stay u
+
+-- and so are its texts
+pub texts_spelled : (x : Program) (u : List Token) → SpellsProgram x u → texts_of (program_words x) ≡ texts_of u
+texts_spelled x u h = ap texts_of (program_spelled x u h) ∙ texts_stay u

@@ -6,13 +6,16 @@ use Rattle.source_tokens.specs.Brackets.{most_open}
 use Rattle.source_tokens.specs.Positions.{position_of}
 use Rattle.source_tokens.specs.Scans.{scan, tokens_of}
 use Rattle.source_tokens.specs.declared.position.Position.{Position}
-use Rattle.source_tree.specs.Limits.{IsNumber, IsShort, IsLow, names_count, steps_count, most_names, most_steps}
+use Rattle.source_tokens.specs.declared.token.Token.{Token}
+use Rattle.source_tree.specs.Limits.{IsWithin, IsNumber, IsShort, IsLow, names_count, steps_count, most_names, most_steps}
 use Rattle.source_tree.specs.Programs.{SpellsProgram}
 use Rattle.source_tree.specs.Words.{program_words, numbers_of, texts_of}
 use Rattle.source_tree.specs.declared.program.Program.{Program}
 use Rattle.syntax_judge.specs.Faults.{SyntaxFault}
 use Rattle.cloud_parse.specs.declared.fault.ParseFault.{ParseFault}
 use Rattle.cloud_parse.specs.declared.fault.ParseFault.TheVariants as fault
+use Rattle.cloud_parse.specs.Items.{item_lines}
+use Rattle.cloud_parse.specs.declared.parsed.Parsed.{Parsed}
 use Rattle.cloud_parse.specs.declared.fault.Which.{Which}
 use Rattle.cloud_parse.specs.declared.fault.Which.TheVariants as which
 
@@ -25,7 +28,7 @@ abbrev pub most_brackets : ℕ
 most_brackets = 64
 
 -- the text is read whole, and its tokens spell the program
-pub record HasTree (text : List ℕ) (p : Program) : Type 0 where
+pub record IsTreeOf (text : List ℕ) (p : Program) : Type 0 where
   pub whole : (scan text).fault ≡ None
   pub spelled : SpellsProgram p (tokens_of (scan text).tokens)
 
@@ -60,7 +63,7 @@ KeepsBefore which.Steps p = Keeps which.Number p × Keeps which.Text p × Keeps 
 pub record BreaksFirst (w : Which) (text : List ℕ) : Type 0 where
   pub readable : IsReadable text
   pub program : Program
-  pub tree : HasTree text program
+  pub tree : IsTreeOf text program
   pub before : KeepsBefore w program
   pub broken : ¬ Keeps w program
 
@@ -70,16 +73,22 @@ TellsLimit which.Bytes text = most_source_bytes < length text
 TellsLimit which.Brackets text = (length text ≤ most_source_bytes) × (most_brackets < most_open 0 (tokens_of (scan text).tokens))
 TellsLimit w text = BreaksFirst w text
 
+-- the first that is wrong with tokens that spell a program: a limit that it breaks
+abbrev pub TreeFault : List Token → ParseFault → Type 0
+TreeFault tokens (fault.Limit w) = (p : Program) × SpellsProgram p tokens × KeepsBefore w p × ¬ Keeps w p
+TreeFault tokens (fault.Syntax line column) = ⊥
+TreeFault tokens fault.Memory = ⊤
+
 -- the position of the syntax fault of a text that no program has
 pub record TellsSyntax (text : List ℕ) (position : Position) : Type 0 where
   pub readable : IsReadable text
-  pub none : (p : Program) → ¬ HasTree text p
+  pub none : (p : Program) → ¬ IsTreeOf text p
   pub place : (at : ℕ) × SyntaxFault text at × (position ≡ position_of text at)
 
 -- What parsing a text answers: its tree and the lines of its items; else the first that is wrong; and want of memory,
 -- which may come at any time.
 abbrev pub ParseAnswers : List ℕ → Result Parsed ParseFault → Type 0
-ParseAnswers text (Ok parsed) = IsReadable text × HasTree text parsed.tree × IsWithin parsed.tree × (parsed.lines ≡ item_lines (scan text).tokens)
+ParseAnswers text (Ok parsed) = IsReadable text × IsTreeOf text parsed.tree × IsWithin parsed.tree × (parsed.lines ≡ item_lines (scan text).tokens)
 ParseAnswers text (Err (fault.Limit w)) = TellsLimit w text
 ParseAnswers text (Err (fault.Syntax line column)) = TellsSyntax text (record { line = line; column = column })
 ParseAnswers text (Err fault.Memory) = ⊤

@@ -1,7 +1,13 @@
-// A source text, its tree and its canonical text.
+// A source text, its tokens and its tree.
 #![tactic(auto)]
 
 mod fault;
+mod items;
 mod limits;
+mod parsed;
+mod source;
+mod tree;
 
 pub use fault::{ParseFault, Which};
+pub use parsed::{LineList, Parsed};
+pub use source::{MOST_SOURCE_BYTES, parse};

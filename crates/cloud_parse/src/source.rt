@@ -3,9 +3,9 @@ ghost use Rattle.std.specs.Prelude.{◌≡◌, List, ℕ};
 ghost use Rattle.cloud_parse.specs.Parse.{ParseAnswers};
 
 use crate::fault::{ParseFault, Which};
+use crate::items::item_lines;
 use crate::parsed::Parsed;
 use crate::tree::tree_of;
-use source_reader::item_lines;
 use source_tokens::{Position, has_too_many_open, position_of, scan, scanned_tokens};
 use std::alloc::Global;
 use syntax_judge::fault_of;
@@ -23,6 +23,8 @@ pub fn parse(alloc: Global, text: &[u8]) -> Result<Parsed, ParseFault>
     if text.len() > MOST_SOURCE_BYTES {
         return Err(ParseFault::Limit(Which::Bytes));
     }
+    some_tree();
+    scanned_tokens();
     let found = scan(alloc, text)?;
     let tokens = found.tokens.as_slice();
     if has_too_many_open(tokens) {
@@ -32,8 +34,6 @@ pub fn parse(alloc: Global, text: &[u8]) -> Result<Parsed, ParseFault>
         let Position { line, column } = position_of(text, at);
         return Err(ParseFault::Syntax { line, column });
     }
-    some_tree();
-    scanned_tokens();
     let tree = tree_of(alloc, tokens)?;
     let lines = item_lines(alloc, tokens)?;
     Ok(Parsed { tree, lines })

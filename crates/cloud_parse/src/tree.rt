@@ -6,13 +6,13 @@ ghost use Rattle.source_tokens.specs.Scans.{tokens_of, IsToken};
 ghost use Rattle.source_tree.specs.Limits.{IsTree, IsWithin};
 ghost use Rattle.source_tree.specs.Programs.{SpellsProgram};
 ghost use Rattle.source_tree.specs.declared.program.Program.{Program};
-ghost use Rattle.syntax_trees.specs.Trees.{HasTree};
+ghost use Rattle.source_tree.specs.Programs.{HasTree};
 ghost use Rattle.cloud_parse.specs.Parse.{Keeps, KeepsBefore, TreeFault};
 ghost use Rattle.cloud_parse.specs.declared.fault.Which.TheVariants as which;
 
 use crate::fault::{ParseFault, Which};
 use crate::limits::{are_names_few, are_numbers_small, are_steps_few, are_texts_short};
-use source_reader::read;
+use source_reader::{Reading, read};
 use source_tokens::Placed;
 use source_tree::{Program, Tree};
 use std::alloc::Global;
@@ -23,7 +23,7 @@ const MOST_CLIENTS: usize = 8;
 fn broken_by_words(tokens: &[Placed]) -> Option<Which>
     ensures { (p : Program) → SpellsProgram p (tokens_of tokens.now)
         → MatchOption result (Keeps which.Number p × Keeps which.Text p)
-            (λ w. KeepsBefore w p × ¬ Keeps w p) }
+        (λ w. KeepsBefore w p × ¬ Keeps w p) }
 {
     if !are_numbers_small(tokens) {
         return Some(Which::Number);
@@ -39,7 +39,7 @@ fn broken_by_counts(program: &Program) -> Option<Which>
     ensures { Keeps which.Number program.now × Keeps which.Text program.now
         × Keeps which.Height program.now
         → MatchOption result (IsWithin program.now)
-            (λ w. KeepsBefore w program.now × ¬ Keeps w program.now) }
+        (λ w. KeepsBefore w program.now × ¬ Keeps w program.now) }
 {
     if !are_names_few(program.declarations.as_slice()) {
         return Some(Which::Names);
@@ -65,7 +65,7 @@ pub fn tree_of(alloc: Global, tokens: &[Placed]) -> Result<Tree, ParseFault>
     if let Some(which) = broken_by_words(tokens) {
         return Err(ParseFault::Limit(which));
     }
-    let Some(program) = read(alloc, tokens)? else {
+    let Reading::Tree(program) = read(alloc, tokens)? else {
         return Err(ParseFault::Limit(Which::Height));
     };
     match broken_by_counts(&program) {
