@@ -1,2 +1,3 @@
 pub mod Worded
 mod Counted
+mod OneAnswer

@@ -25,6 +25,9 @@ pub enum Which {
     Clients,
     /// A schedule whose numbers add up to more than 100,000.
     Steps,
+    /// Not in the first form. `parse` never tells it: it is for `play`, until that takes every
+    /// program.
+    Form,
 }
 
 /// Why a text isn't parsed.

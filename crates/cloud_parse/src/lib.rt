@@ -10,4 +10,4 @@ mod tree;
 
 pub use fault::{ParseFault, Which};
 pub use parsed::{LineList, Parsed};
-pub use source::{MOST_SOURCE_BYTES, parse};
+pub use source::{MOST_SOURCE_BYTES, one_answer, parse};

@@ -1,14 +1,18 @@
 // Parsing a text.
-ghost use Rattle.std.specs.Prelude.{◌≡◌, List, ℕ};
+ghost use Rattle.std.specs.Prelude.{◌≡◌, ◌≢◌, List, ℕ, Result, Err};
+ghost use Rattle.cloud_parse.specs.declared.fault.ParseFault.{ParseFault};
+ghost use Rattle.cloud_parse.specs.declared.fault.ParseFault.TheVariants as fault;
+ghost use Rattle.cloud_parse.specs.declared.parsed.Parsed.{Parsed};
 ghost use Rattle.cloud_parse.specs.Parse.{ParseAnswers};
 
 use crate::fault::{ParseFault, Which};
 use crate::items::item_lines;
 use crate::parsed::Parsed;
 use crate::tree::tree_of;
+use source_reader::one_tree;
 use source_tokens::{Position, has_too_many_open, position_of, scan, scanned_tokens};
 use std::alloc::Global;
-use syntax_judge::fault_of;
+use syntax_judge::{fault_of, one_fault};
 use syntax_trees::some_tree;
 
 /// The most bytes of a source text.
@@ -37,4 +41,13 @@ pub fn parse(alloc: Global, text: &[u8]) -> Result<Parsed, ParseFault>
     let tree = tree_of(alloc, tokens)?;
     let lines = item_lines(alloc, tokens)?;
     Ok(Parsed { tree, lines })
+}
+
+/// Two answers other than want of memory are one, so each comes exactly where it is right.
+pub fn one_answer()
+    ensures { (text : List ℕ) (a b : Result Parsed ParseFault) → ParseAnswers text a
+        → ParseAnswers text b → a ≢ Err fault.Memory → b ≢ Err fault.Memory → a ≡ b }
+{
+    one_tree();
+    one_fault();
 }

@@ -104,3 +104,7 @@ pub data SpellsClients : List Client → Option (List Item) → List Token → T
 pub data SpellsProgram : Program → List Token → Type 0 where
   program : (ds : List Declaration) (x : Client) (xs : List Client) (plan : Option (List Item)) (u v w : List Token) → SpellsDeclarations ds u → SpellsClient x v → SpellsClients xs plan w
       → SpellsProgram (record { declarations = ds; clients = x ∷ xs; schedule = plan }) (Fixed t.Schema ∷ Fixed t.OpenBrace ∷ (u ++ (v ++ w)))
+
+-- the tokens spell some program
+abbrev pub HasTree : List Token → Type 0
+HasTree tokens = (p : Program) × SpellsProgram p tokens
