@@ -41,7 +41,8 @@ GotPart (Some held) after text = (n : ℕ) × (n < length text) × (after ≡ So
 
 -- What reading did to a source, by its answer. `left` is what the source tells that it has left, and it counts faults and
 -- ends.
-pub record Reads {S T : Type 0} (left : S → Option (List ℕ)) (faults ends : S → ℕ) (most : ℕ) (source source' : S) (result : Result T ReadError) : Type 0 where
+pub record Reads {S T : Type 0} (left : S → Option (List ℕ)) (faults ends : S → ℕ) (most : ℕ)
+    (source source' : S) (result : Result T ReadError) : Type 0 where
   -- it failed only where the count of faults rose
   pub fault : IsErrOf result error.Failed → Rose (faults source) (faults source')
   -- with any other answer that count stands
@@ -54,10 +55,12 @@ pub record Reads {S T : Type 0} (left : S → Option (List ℕ)) (faults ends : 
   pub unended : OnErr result (ends source' ≡ ends source)
 
 -- One read, whose bytes go to the end of what was taken before.
-pub record ReadsPiece {S : Type 0} (left : S → Option (List ℕ)) (faults ends : S → ℕ) (most : ℕ) (source source' : S) (taken taken' : List ℕ) (result : Result Found ReadError) : Type 0 where
+pub record ReadsPiece {S : Type 0} (left : S → Option (List ℕ)) (faults ends : S → ℕ) (most : ℕ)
+    (source source' : S) (taken taken' : List ℕ) (result : Result Found ReadError) : Type 0 where
   pub reads : Reads left faults ends most source source' result
   -- with what was taken before, what was taken and what is left make what was left at first
-  pub parts : OnOk result ((first : Option (List ℕ)) → Parts first (left source) taken → Parts first (left source') taken')
+  pub parts : OnOk result ((first : Option (List ℕ)) → Parts first (left source) taken
+      → Parts first (left source') taken')
   -- at the end nothing is left
   pub end : IfOk result (λ f. f ≡ found.End → AtEnd (left source'))
   -- at the end the count of ends rose
@@ -66,7 +69,8 @@ pub record ReadsPiece {S : Type 0} (left : S → Option (List ℕ)) (faults ends
   pub unseen : IfOk result (λ f. f ≡ found.Bytes → ends source' ≡ ends source)
 
 -- All that a source has left was taken, or one byte more than a source may have of it.
-pub record ReadsAll {S : Type 0} (left : S → Option (List ℕ)) (faults ends : S → ℕ) (source source' : S) (result : Result (List ℕ) ReadError) : Type 0 where
+pub record ReadsAll {S : Type 0} (left : S → Option (List ℕ)) (faults ends : S → ℕ)
+    (source source' : S) (result : Result (List ℕ) ReadError) : Type 0 where
   pub reads : Reads left faults ends most_read source source' result
   -- what was taken and what is left make what was left at first
   pub parts : IfOk result (λ taken. Parts (left source) (left source') taken)

@@ -20,7 +20,8 @@ IsReadRefusal Memory = Unit {0}
 
 -- What reading the tree of a source did, by its answer. `left` is what the source tells that it has left, and it counts
 -- faults and ends.
-pub record ReadsTree {S : Type 0} (left : S → Option (List ℕ)) (faults ends : S → ℕ) (source source' : S) (result : Result Form Status) : Type 0 where
+pub record ReadsTree {S : Type 0} (left : S → Option (List ℕ)) (faults ends : S → ℕ) (source source' : S)
+    (result : Result Form Status) : Type 0 where
   -- the tree is that of all that was left, which `play` accepts
   pub form : IfOk result (λ f. LeftForm (left source) f)
   pub accepted : OnOk result (JudgesLeft (Some Play) Done (left source))
@@ -41,7 +42,9 @@ pub record ReadsTree {S : Type 0} (left : S → Option (List ℕ)) (faults ends 
 
 -- One call of the program, by its command, None where the words are none, and its status. A source tells what it has left
 -- and counts faults and ends, and a sink tells what it holds and counts faults.
-pub record Runs {S K : Type 0} (left : S → Option (List ℕ)) (faults ends : S → ℕ) (holds : K → Option (List ℕ)) (sink_faults : K → ℕ) (command : Option Command) (status : Status) (source source' : S) (sink sink' : K) : Type 0 where
+pub record Runs {S K : Type 0} (left : S → Option (List ℕ)) (faults ends : S → ℕ)
+    (holds : K → Option (List ℕ)) (sink_faults : K → ℕ)
+    (command : Option Command) (status : Status) (source source' : S) (sink sink' : K) : Type 0 where
   -- the status is Words exactly where the words are no command
   pub words : (status ≡ Words) ↔ (command ≡ None)
   -- then the source wasn't touched
@@ -67,4 +70,5 @@ pub record Runs {S K : Type 0} (left : S → Option (List ℕ)) (faults ends : S
   -- what `play` wrote with success is the report of a lawful diagram of the source's program
   pub lawful : status ≡ Done → WritesLawful command (left source) (holds sink) (holds sink')
   -- where the command accepts the source and no count of faults rose, success comes, or want of memory
-  pub complete : Accepted command (left source) → ¬ Rose (faults source) (faults source') → ¬ Rose (sink_faults sink) (sink_faults sink') → (status ≡ Done) ⊎ (status ≡ Memory)
+  pub complete : Accepted command (left source) → ¬ Rose (faults source) (faults source')
+      → ¬ Rose (sink_faults sink) (sink_faults sink') → (status ≡ Done) ⊎ (status ≡ Memory)
