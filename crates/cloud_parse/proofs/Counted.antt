@@ -22,7 +22,7 @@ texts_first (Number n) tokens = refl
 texts_first (Text bytes) tokens = refl
 texts_first (Fixed w) tokens = refl
 
-both : {A : Type 0} (P : A → Type 0) (xs ys : List A) → AllByRecursion P xs → AllByRecursion P ys → AllByRecursion P (xs ++ ys)
+pub both : {A : Type 0} (P : A → Type 0) (xs ys : List A) → AllByRecursion P xs → AllByRecursion P ys → AllByRecursion P (xs ++ ys)
 both P [] ys h k = k
 both P (x ∷ xs) ys h k = (h.0, both P xs ys h.1 k)
 
@@ -83,7 +83,7 @@ texts_end tokens at before all = (
 abbrev pub RoomLeft : {A : Type 0} → (A → ℕ) → ℕ → List A → ℕ → ℕ → Type 0
 RoomLeft f most xs at room = sum (map f xs) + room ≡ most + sum (map f (drop at xs))
 
-added : (n : ℕ) (ns : List ℕ) → fold ◌+◌ n ns ≡ n + fold ◌+◌ 0 ns
+pub added : (n : ℕ) (ns : List ℕ) → fold ◌+◌ n ns ≡ n + fold ◌+◌ 0 ns
 added n [] = omega arith
 added n (m ∷ ns) = omega (arith, added (n + m) ns, added (0 + m) ns)
 

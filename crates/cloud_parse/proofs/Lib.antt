@@ -1,3 +1,4 @@
 pub mod Worded
 mod Counted
+mod ItemCount
 mod OneAnswer

@@ -1,6 +1,11 @@
 -- The items of a source and their lines. An item is a global, an array, an entity, a client, a statement or an item of
 -- the schedule.
-use Rattle.std.specs.Prelude.{◌≡◌, refl, ℕ, Bool, true, false, not, ◌&&◌, ◌||◌, if◌then◌else◌, List, [], ◌∷◌, ◌++◌, codes}
+use Rattle.std.specs.Prelude.{◌≡◌, refl, ℕ, Bool, true, false, not, ◌&&◌, ◌||◌, ◌+◌, sum, map, length, unwrap_or, if◌then◌else◌, List, [], ◌∷◌, ◌++◌, codes}
+use Rattle.source_tree.specs.declared.program.Client.{Client}
+use Rattle.source_tree.specs.declared.program.Program.{Program}
+use Rattle.source_tree.specs.declared.statement.Statement.{Statement}
+use Rattle.source_tree.specs.declared.statement.Statement.TheFolds.{fold-Statement}
+use Rattle.source_tree.specs.declared.statement.Statement.TheOpen.{Statement-F}
 use Rattle.source_tokens.specs.Lexemes.{lexeme_at}
 use Rattle.source_tokens.specs.Scans.{scan, scan_behind}
 use Rattle.source_tokens.specs.Terminals.{reserved, words}
@@ -8,6 +13,34 @@ use Rattle.source_tokens.specs.declared.terminal.Terminal.TheVariants as t
 use Rattle.source_tokens.specs.declared.token.Placed.{Placed}
 use Rattle.source_tokens.specs.declared.token.Token.{Token}
 use Rattle.source_tokens.specs.declared.token.Token.TheVariants.{Fixed}
+
+-- the items of a statement: itself and those in its blocks
+abbrev pub items_step : Statement-F ℕ → ℕ
+items_step (Statement-F.If a first second) = 1 + (sum first + sum (unwrap_or second []))
+items_step (Statement-F.While a body) = 1 + sum body
+items_step (Statement-F.ForAll x n body) = 1 + sum body
+items_step (Statement-F.ForEntries xs n p body) = 1 + sum body
+items_step (Statement-F.Define x a) = 1
+items_step (Statement-F.Create x n keys) = 1
+items_step (Statement-F.Assign x a) = 1
+items_step (Statement-F.Update p op a) = 1
+items_step (Statement-F.Delete x) = 1
+items_step (Statement-F.Print a) = 1
+items_step Statement-F.Yield = 1
+items_step Statement-F.Flush = 1
+
+unfoldable pub statement_items : Statement → ℕ
+statement_items = fold-Statement ℕ items_step
+
+abbrev pub body_items : List Statement → ℕ
+body_items body = sum (map statement_items body)
+
+abbrev pub client_items : Client → ℕ
+client_items client = 1 + body_items client.body
+
+-- how many items a program has
+abbrev pub items : Program → ℕ
+items p = length p.declarations + (sum (map client_items p.clients) + length (unwrap_or p.schedule []))
 
 -- a token with which a declaration or a client begins
 abbrev pub opens_item : Token → Bool

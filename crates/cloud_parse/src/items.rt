@@ -1,6 +1,10 @@
 // The items of a source.
-ghost use Rattle.std.specs.Prelude.{◌≡◌, IfOk};
-ghost use Rattle.cloud_parse.specs.Items.{opens_item, is_client, is_end, goes_on, begins_item, item_lines};
+ghost use Rattle.std.specs.Prelude.{◌≡◌, IfOk, List, length};
+ghost use Rattle.source_tokens.specs.Scans.{tokens_of};
+ghost use Rattle.source_tokens.specs.declared.token.Placed.{Placed};
+ghost use Rattle.source_tree.specs.Programs.{SpellsProgram};
+ghost use Rattle.source_tree.specs.declared.program.Program.{Program};
+ghost use Rattle.cloud_parse.specs.Items.{opens_item, is_client, is_end, goes_on, begins_item, item_lines, items};
 
 use crate::parsed::LineList;
 use cloud_base::{Memory, Sequence};
@@ -62,3 +66,10 @@ pub fn item_lines(alloc: Global, tokens: &[Placed]) -> Result<LineList, Memory>
     }
     Ok(lines)
 }
+
+/// Each item of a tree has one line.
+#[tactic(auto, using(crate::proofs::ItemCount::counted_items))]
+pub fn counted_items()
+    ensures { (p : Program) (tokens : List Placed) → SpellsProgram p (tokens_of tokens)
+        → length (item_lines tokens) ≡ items p }
+{}

@@ -9,5 +9,6 @@ mod source;
 mod tree;
 
 pub use fault::{ParseFault, Which};
+pub use items::counted_items;
 pub use parsed::{LineList, Parsed};
 pub use source::{MOST_SOURCE_BYTES, one_answer, parse};
