@@ -16,7 +16,7 @@ pub enum Operation {
 #[derive(Drop)]
 pub enum Statement {
     Define(Identifier, Expression),
-    Create(Identifier, Identifier, Sequence<Expression>),
+    Create(Identifier, Identifier, Items<Expression>),
     Assign(Identifier, Expression),
     Update(Place<Expression>, Operation, Expression),
     Delete(Identifier),
