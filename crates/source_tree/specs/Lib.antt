@@ -1,6 +1,7 @@
 pub mod Expressions
 pub mod Forms
 pub mod Heights
+pub mod Items
 pub mod Limits
 pub mod Programs
 pub mod Statements
