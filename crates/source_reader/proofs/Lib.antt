@@ -10,3 +10,5 @@ mod Bodies
 mod Blocks
 mod Programs
 mod Unique
+mod ItemCounts
+mod ItemLines
