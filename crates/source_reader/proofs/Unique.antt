@@ -3,6 +3,8 @@ use Rattle.std.proofs.Common.{◌≡◌, refl, sym, ◌∙◌, ap, subst, inl, i
 use Rattle.std.proofs.lemmas.Bool.{cases_lt}
 use Rattle.std.specs.Prelude.{ℕ, ◌<◌, ◌≤◌, max, List, [], ◌∷◌, length, Some, None}
 use Rattle.std.specs.List.{AllByRecursion}
+use Rattle.source_tokens.specs.Scans.{tokens_of}
+use Rattle.source_tokens.specs.declared.token.Placed.{Placed}
 use Rattle.source_tokens.specs.declared.token.Token.{Token}
 use Rattle.source_tree.specs.declared.program.Client.{Client}
 use Rattle.source_tree.specs.declared.program.Program.{Program}
@@ -10,7 +12,7 @@ use Rattle.source_tree.specs.Limits.{IsLow}
 use Rattle.source_tree.specs.Programs.{SpellsProgram}
 use Rattle.source_reader.specs.declared.reading.Reading.{Reading}
 use Rattle.source_reader.specs.declared.reading.Reading.TheVariants as r
-use Rattle.source_reader.specs.Answers.{IsReading}
+use Rattle.source_reader.specs.Answers.{HasTree, IsReading}
 use Rattle.source_reader.specs.Sources.{program_at}
 use Rattle.source_reader.proofs.Heights.{within_yes, within_no}
 use Rattle.source_reader.proofs.Programs.{clients_height, kept, program_again}
@@ -21,6 +23,10 @@ read_low p tokens depth high h deep low = program_again p tokens h depth high de
 
 pub read_high : (p : Program) (tokens : List Token) (depth high : ℕ) → SpellsProgram p tokens → length tokens ≤ depth → high < clients_height p.clients → program_at depth high tokens ≡ None
 read_high p tokens depth high h deep above = program_again p tokens h depth high deep ∙ ap kept (within_no high p (clients_height p.clients) [] above)
+
+long : (tokens : List Placed) → length (tokens_of tokens) ≤ length tokens
+long [] = omega arith
+long (p ∷ ps) = let h : length (tokens_of ps) ≤ length ps = long ps in omega arith
 
 some_same : {A : Type 0} (a b : A) → Some a ≡ Some b → a ≡ b
 some_same a b h = cc
@@ -47,12 +53,12 @@ one_reading r.TooHigh (r.Tree p) _ tokens h none (i, low) = absurd (none p i low
 one_reading r.TooHigh r.TooHigh _ tokens h none none' = refl
 
 -- what the code answers
-pub tree_read : (p : Program) (tokens : List Token) (q : Program) → SpellsProgram q tokens → program_at (length tokens) 32 tokens ≡ Some p → IsReading tokens (r.Tree p)
-tree_read p tokens q h read = elim (cases_lt 32 (clients_height q.clients)) [
-  | inl above ↦ absurd (let e : Some p ≡ None = sym read ∙ read_high q tokens (length tokens) 32 h (omega arith) above in cc)
-  | inr low ↦ let same : q ≡ p = some_same q p (sym (read_low q tokens (length tokens) 32 h (omega arith) low) ∙ read) in
-      subst (λ p. IsReading tokens (r.Tree p)) same (h, all_low q.clients low)
+pub tree_read : (tokens : List Placed) (p : Program) → HasTree (tokens_of tokens) → Some p ≡ program_at (length tokens) 32 (tokens_of tokens) → IsReading (tokens_of tokens) (r.Tree p)
+tree_read tokens p (q, h) read = elim (cases_lt 32 (clients_height q.clients)) [
+  | inl above ↦ absurd (let e : Some p ≡ None = read ∙ read_high q (tokens_of tokens) (length tokens) 32 h (long tokens) above in cc)
+  | inr low ↦ let same : q ≡ p = some_same q p (sym (read_low q (tokens_of tokens) (length tokens) 32 h (long tokens) low) ∙ sym read) in
+      subst (λ p. IsReading (tokens_of tokens) (r.Tree p)) same (h, all_low q.clients low)
 ]
 
-pub high_read : (tokens : List Token) → program_at (length tokens) 32 tokens ≡ None → IsReading tokens r.TooHigh
-high_read tokens read = λ p h low. absurd (let e : Some p ≡ None = sym (read_low p tokens (length tokens) 32 h (omega arith) (height_low p.clients low)) ∙ read in cc)
+pub high_read : (tokens : List Placed) → None ≡ program_at (length tokens) 32 (tokens_of tokens) → IsReading (tokens_of tokens) r.TooHigh
+high_read tokens read = λ p h low. absurd (let e : Some p ≡ None = sym (read_low p (tokens_of tokens) (length tokens) 32 h (long tokens) (height_low p.clients low)) ∙ sym read in cc)
