@@ -1,4 +1,2 @@
-pub mod Worded
 mod Counted
-mod ItemCount
 mod OneAnswer

@@ -11,7 +11,7 @@ use Rattle.source_tree.specs.Limits.{IsWithin}
 use Rattle.source_tree.specs.Programs.{SpellsProgram}
 use Rattle.source_tree.specs.declared.program.Program.{Program}
 use Rattle.syntax_judge.specs.Faults.{SyntaxFault}
-use Rattle.cloud_parse.specs.Items.{item_lines}
+use Rattle.source_reader.specs.Lines.{item_lines}
 use Rattle.cloud_parse.specs.Parse.{IsTreeOf, IsReadable, Keeps, KeepsBefore, BreaksFirst, TellsLimit, TellsSyntax, ParseAnswers, most_source_bytes, most_brackets}
 use Rattle.cloud_parse.specs.declared.parsed.Parsed.{Parsed}
 use Rattle.cloud_parse.specs.declared.fault.ParseFault.{ParseFault}

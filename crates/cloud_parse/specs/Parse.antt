@@ -14,7 +14,7 @@ use Rattle.source_tree.specs.declared.program.Program.{Program}
 use Rattle.syntax_judge.specs.Faults.{SyntaxFault}
 use Rattle.cloud_parse.specs.declared.fault.ParseFault.{ParseFault}
 use Rattle.cloud_parse.specs.declared.fault.ParseFault.TheVariants as fault
-use Rattle.cloud_parse.specs.Items.{item_lines}
+use Rattle.source_reader.specs.Lines.{item_lines}
 use Rattle.cloud_parse.specs.declared.parsed.Parsed.{Parsed}
 use Rattle.cloud_parse.specs.declared.fault.Which.{Which}
 use Rattle.cloud_parse.specs.declared.fault.Which.TheVariants as which

@@ -2,13 +2,11 @@
 #![tactic(auto)]
 
 mod fault;
-mod items;
 mod limits;
 mod parsed;
 mod source;
 mod tree;
 
 pub use fault::{ParseFault, Which};
-pub use items::counted_items;
 pub use parsed::{LineList, Parsed};
 pub use source::{MOST_SOURCE_BYTES, one_answer, parse};

@@ -6,10 +6,9 @@ ghost use Rattle.cloud_parse.specs.declared.parsed.Parsed.{Parsed};
 ghost use Rattle.cloud_parse.specs.Parse.{ParseAnswers};
 
 use crate::fault::{ParseFault, Which};
-use crate::items::item_lines;
 use crate::parsed::Parsed;
 use crate::tree::tree_of;
-use source_reader::one_tree;
+use source_reader::{item_lines, one_tree};
 use source_tokens::{Position, has_too_many_open, position_of, scan, scanned_tokens};
 use std::alloc::Global;
 use syntax_judge::{fault_of, one_fault};

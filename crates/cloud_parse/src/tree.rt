@@ -14,7 +14,7 @@ use crate::fault::{ParseFault, Which};
 use crate::limits::{are_names_few, are_numbers_small, are_steps_few, are_texts_short};
 use source_reader::{Reading, read};
 use source_tokens::Placed;
-use source_tree::{Program, Tree};
+use source_tree::{Program, Tree, spelled_words};
 use std::alloc::Global;
 
 const MOST_CLIENTS: usize = 8;
@@ -25,6 +25,7 @@ fn broken_by_words(tokens: &[Placed]) -> Option<Which>
         → MatchOption result (Keeps which.Number p × Keeps which.Text p)
         (λ w. KeepsBefore w p × ¬ Keeps w p) }
 {
+    spelled_words();
     if !are_numbers_small(tokens) {
         return Some(Which::Number);
     }

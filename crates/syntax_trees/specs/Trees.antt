@@ -1,16 +1,10 @@
--- Tokens that have a tree.
-use Rattle.std.specs.Prelude.{List, [], ◌∷◌, None, codes}
+-- A text that has a tree.
+use Rattle.std.specs.Prelude.{[], ◌∷◌, None, codes}
 use Rattle.source_tokens.specs.Lexemes.{lexeme_at}
 use Rattle.source_tokens.specs.Scans.{scan, scan_behind, tokens_of}
 use Rattle.source_tokens.specs.Terminals.{reserved, words}
-use Rattle.source_tokens.specs.declared.token.Token.{Token}
-use Rattle.source_tree.specs.Programs.{SpellsProgram, program, no_declarations, client, no_clients}
+use Rattle.source_tree.specs.Programs.{HasTree, program, no_declarations, client, no_clients}
 use Rattle.source_tree.specs.Statements.{block, no_statements}
-use Rattle.source_tree.specs.declared.program.Program.{Program}
-
--- they spell some program
-abbrev pub HasTree : List Token → Type 0
-HasTree tokens = (p : Program) × SpellsProgram p tokens
 
 -- a smallest program
 pub example_tree : HasTree (tokens_of (scan (codes "schema {} client c {}")).tokens)

@@ -4,7 +4,7 @@ ghost use Rattle.source_tokens.specs.Scans.{scan, tokens_of};
 ghost use Rattle.source_tokens.specs.declared.token.Token.{Token};
 ghost use Rattle.syntax_judge.specs.Faults.{IsSource};
 ghost use Rattle.syntax_judge.specs.Programs.{IsProgram, kind_of};
-ghost use Rattle.syntax_trees.specs.Trees.{HasTree};
+ghost use Rattle.source_tree.specs.Programs.{HasTree};
 
 /// Tokens spell some program exactly where their kinds are a program's to the grammar. So a text
 /// is a program's exactly where all of it is read and its tokens spell one.
