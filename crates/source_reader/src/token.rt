@@ -17,7 +17,8 @@ pub fn split(tokens: &[Placed]) -> Option<(&Token, &[Placed])>
 // What is behind a fixed token.
 #[tactic(auto, unfolding(crate::specs::Reading::behind))]
 pub fn behind(tokens: &[Placed], wanted: Terminal) -> Option<&[Placed]>
-    ensures { option_map (λ rest. tokens_of rest.now) result ≡ behind wanted (tokens_of tokens.now) }
+    ensures { option_map (λ rest. tokens_of rest.now) result
+        ≡ behind wanted (tokens_of tokens.now) }
 {
     match split(tokens)? {
         (Token::Fixed(terminal), rest) if *terminal == wanted => Some(rest),
