@@ -12,7 +12,8 @@ use Rattle.source_tree.specs.Limits.{IsLow}
 use Rattle.source_tree.specs.Programs.{SpellsProgram}
 use Rattle.source_reader.specs.declared.reading.Reading.{Reading}
 use Rattle.source_reader.specs.declared.reading.Reading.TheVariants as r
-use Rattle.source_reader.specs.Answers.{HasTree, IsReading}
+use Rattle.source_tree.specs.Programs.{HasTree}
+use Rattle.source_reader.specs.Answers.{IsReading}
 use Rattle.source_reader.specs.Sources.{program_at}
 use Rattle.source_reader.proofs.Heights.{within_yes, within_no}
 use Rattle.source_reader.proofs.Programs.{clients_height, kept, program_again}

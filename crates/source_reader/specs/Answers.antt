@@ -8,10 +8,6 @@ use Rattle.source_tree.specs.Programs.{SpellsProgram}
 use Rattle.source_reader.specs.declared.reading.Reading.{Reading}
 use Rattle.source_reader.specs.declared.reading.Reading.TheVariants as r
 
--- some tree has these tokens
-abbrev pub HasTree : List Token → Type 0
-HasTree tokens = (p : Program) × SpellsProgram p tokens
-
 -- the tree that has these tokens, where its bodies aren't too high
 abbrev pub IsReading : List Token → Reading → Type 0
 IsReading tokens (r.Tree p) = SpellsProgram p tokens × AllByRecursion IsLow p.clients

@@ -4,7 +4,8 @@ ghost use Rattle.source_tokens.specs.Scans.{tokens_of};
 ghost use Rattle.source_tokens.specs.declared.token.Token.{Token};
 ghost use Rattle.source_tree.specs.declared.program.Program.{Program};
 ghost use Rattle.source_tree.specs.Programs.{SpellsProgram};
-ghost use Rattle.source_reader.specs.Answers.{HasTree, IsReading};
+ghost use Rattle.source_tree.specs.Programs.{HasTree};
+ghost use Rattle.source_reader.specs.Answers.{IsReading};
 ghost use Rattle.source_reader.specs.declared.reading.Reading.{Reading};
 
 use crate::program::program_at;
