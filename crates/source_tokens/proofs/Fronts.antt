@@ -19,10 +19,10 @@ taken p xs = ap (λ n. take n xs) (length-prefix_len p xs)
 pub front_le : {X : Type 0} (p : X → Bool) (xs : List X) → length (take_while p xs) ≤ length xs
 front_le p xs = omega (arith, length-prefix_len p xs, prefix_len-le-length p xs)
 
-front_by : {X : Type 0} (p : X → Bool) (x : X) (xs : List X) → p x ≡ true → take_while p (x ∷ xs) ≡ x ∷ take_while p xs
+pub front_by : {X : Type 0} (p : X → Bool) (x : X) (xs : List X) → p x ≡ true → take_while p (x ∷ xs) ≡ x ∷ take_while p xs
 front_by p x xs e = take_while-cons p x xs ∙ ap (λ b. cond b (x ∷ take_while p xs) []) e
 
-front_none : {X : Type 0} (p : X → Bool) (x : X) (xs : List X) → p x ≡ false → take_while p (x ∷ xs) ≡ []
+pub front_none : {X : Type 0} (p : X → Bool) (x : X) (xs : List X) → p x ≡ false → take_while p (x ∷ xs) ≡ []
 front_none p x xs e = take_while-cons p x xs ∙ ap (λ b. cond b (x ∷ take_while p xs) []) e
 
 all_by : (b : ℕ) (bytes : List ℕ) (t : Bool) → is_name_byte b ≡ t → all_name_bytes (take_while is_name_byte bytes) ≡ true → all_name_bytes (take_while is_name_byte (b ∷ bytes)) ≡ true

@@ -1,7 +1,8 @@
 mod Begun
 pub mod Fronts
-mod Literals
+pub mod Literals
 mod Opened
 pub mod Sameness
-mod Splits
+pub mod Splits
 mod Scanned
+pub mod Lexing

@@ -57,7 +57,7 @@ pub of_lexeme : (at line b : ℕ) (bytes : List ℕ) (o : Option Lexeme) → lex
 unfolding scan_behind
 of_lexeme at line b bytes o h = ap (as_scan at line b bytes) h ∙ same_scan at line b bytes o
 
-after : (at line l b : ℕ) (bytes : List ℕ) → 1 ≤ l → l ≤ length (b ∷ bytes)
+pub after : (at line l b : ℕ) (bytes : List ℕ) → 1 ≤ l → l ≤ length (b ∷ bytes)
     → scan_behind (at + 1) (line_behind b line) (l - 1) bytes ≡ scan_behind (at + l) (line + feeds (take l (b ∷ bytes))) 0 (drop l (b ∷ bytes))
 after at line zero b bytes h fits = absurd (omega arith)
 after at line (suc l) b bytes h fits =
