@@ -5,6 +5,8 @@ mod fault;
 mod limits;
 mod parsed;
 mod source;
+#[cfg(test)]
+mod tests;
 mod tree;
 
 pub use fault::{ParseFault, Which};
