@@ -2,7 +2,8 @@
 ghost use Rattle.std.specs.Prelude.{◌≡◌, ◌-◌, ◌≤◌, [], length, if◌then◌else◌, IfOk};
 ghost use Rattle.std.specs.List.{AllByRecursion};
 ghost use Rattle.first_form.specs.FirstForm.{FirstForm, ActFits};
-ghost use Rattle.one_client.specs.Program.{budget, cost, begun, end_of, schema_of, events_from, events_of, report_of};
+ghost use Rattle.one_client.specs.Program.{budget, cost, begun, end_of, schema_of, events_from};
+ghost use Rattle.one_client.specs.Program.{events_of, report_of};
 ghost use Rattle.one_client.specs.Steps.{steps_of};
 ghost use Rattle.cloud_drive.specs.Play.{is_yield_act, yields_in};
 

@@ -2,7 +2,8 @@
 ghost use Rattle.std.specs.Prelude.{◌≡◌, ◌≤◌, ◌↔◌, ◌-◌, ◌^◌, ◌∷◌, [], Some, min, length, IsTrue};
 ghost use Rattle.std.specs.List.{AllByRecursion};
 ghost use Rattle.source_tokens.specs.Scans.{tokens_of};
-ghost use Rattle.source_tree.specs.Limits.{IsNumber, IsShort, names_in, names_count, steps_in, steps_count, most_names, most_steps};
+ghost use Rattle.source_tree.specs.Limits.{IsNumber, IsShort, names_in, names_count, steps_in};
+ghost use Rattle.source_tree.specs.Limits.{steps_count, most_names, most_steps};
 ghost use Rattle.source_tree.specs.Words.{numbers_of, texts_of};
 
 use cloud_base::MOST_TEXT_BYTES;

@@ -1,10 +1,14 @@
 // Whether a program is in the first form.
-ghost use Rattle.std.specs.Prelude.{◌≡◌, ◌≤◌, ◌<◌, ◌^◌, [], Some, None, IfOk, IfSome, option_map, length};
+ghost use Rattle.std.specs.Prelude.{◌≡◌, ◌≤◌, ◌<◌, ◌^◌, [], Some, None, IfOk, IfSome, option_map};
+ghost use Rattle.std.specs.Prelude.{length};
 ghost use Rattle.std.specs.List.{AllByRecursion};
 ghost use Rattle.source_tokens.specs.Terminals.{IsIdentifier};
 ghost use Rattle.source_tree.specs.declared.expression.Expression.TheVariants as e;
 ghost use Rattle.first_form.specs.declared.form.FirstAct.TheVariants.{Print};
-ghost use Rattle.first_form.specs.FirstForm.{place_of, most_globals, simple, of_63_bits, amount_of, operation_of, global_of, change_of, act_of, acts_of, global_in, globals_behind, first_form, ActFits, AreGlobals};
+ghost use Rattle.first_form.specs.FirstForm.{place_of, most_globals, simple, of_63_bits, amount_of};
+ghost use Rattle.first_form.specs.FirstForm.{operation_of, global_of, change_of, act_of, acts_of};
+ghost use Rattle.first_form.specs.FirstForm.{global_in, globals_behind, first_form, ActFits};
+ghost use Rattle.first_form.specs.FirstForm.{AreGlobals};
 
 use crate::form::{Amount, FirstAct, FirstOperation, FirstProgram, MOST_GLOBALS};
 use cloud_base::{CellType, Memory, Name, Sequence};

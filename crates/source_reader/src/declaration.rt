@@ -1,7 +1,10 @@
 // Reading declarations. Each reader gives a value and the tokens behind it.
 ghost use Rattle.std.specs.Prelude.{◌≡◌, [], length, option_map, IfOk};
 ghost use Rattle.source_tokens.specs.Scans.{tokens_of};
-ghost use Rattle.source_reader.specs.Sources.{cell_at, key_type_at, key_at, key_list_by, property_at, property_list_by, properties_at, entity_keys_at, global_at, array_at, entity_at, declaration_at, declarations_by, schema_at};
+ghost use Rattle.source_reader.specs.Sources.{cell_at, key_type_at, key_at, key_list_by};
+ghost use Rattle.source_reader.specs.Sources.{property_at, property_list_by, properties_at};
+ghost use Rattle.source_reader.specs.Sources.{entity_keys_at, global_at, array_at, entity_at};
+ghost use Rattle.source_reader.specs.Sources.{declaration_at, declarations_by, schema_at};
 
 use crate::token::{behind, name_at, split};
 use cloud_base::{CellType, Memory, Sequence};

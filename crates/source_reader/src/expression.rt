@@ -2,7 +2,10 @@
 ghost use Rattle.std.specs.Prelude.{◌≡◌, ◌<◌, ◌+◌, ◌-◌, ◌^◌, [], length, option_map, IfOk};
 ghost use Rattle.source_tokens.specs.Scans.{tokens_of};
 ghost use Rattle.source_tree.specs.declared.expression.Level.TheVariants as level;
-ghost use Rattle.source_reader.specs.Reading.{within, operator_of, operator_at, keys_by, place_by, alive_by, factor_by, bracketed_by, minus_by, entry_by, turns, chain_by, chain, not_by, negation_by, level_by, level_at, rank};
+ghost use Rattle.source_reader.specs.Reading.{within, operator_of, operator_at, keys_by, place_by};
+ghost use Rattle.source_reader.specs.Reading.{alive_by, factor_by, bracketed_by, minus_by};
+ghost use Rattle.source_reader.specs.Reading.{entry_by, turns, chain_by, chain, not_by};
+ghost use Rattle.source_reader.specs.Reading.{negation_by, level_by, level_at, rank};
 
 use crate::token::{behind, name_at, split};
 use cloud_base::Memory;

@@ -1,11 +1,13 @@
 // The lines of the items of a source.
-ghost use Rattle.std.specs.Prelude.{◌≡◌, ◌∷◌, ◌++◌, ◌||◌, List, [], length, IfOk, OnOk, MatchOption};
+ghost use Rattle.std.specs.Prelude.{◌≡◌, ◌∷◌, ◌++◌, ◌||◌, List, [], length, IfOk, OnOk};
+ghost use Rattle.std.specs.Prelude.{MatchOption};
 ghost use Rattle.source_tokens.specs.Scans.{tokens_of};
 ghost use Rattle.source_tokens.specs.declared.token.Placed.{Placed};
 ghost use Rattle.source_tree.specs.declared.program.Program.{Program};
 ghost use Rattle.source_tree.specs.Items.{program_items};
 ghost use Rattle.source_tree.specs.Programs.{SpellsProgram};
-ghost use Rattle.source_reader.specs.Lines.{is_client, declares, opens, passes, begins, noted, item_lines};
+ghost use Rattle.source_reader.specs.Lines.{is_client, declares, opens, passes, begins, noted};
+ghost use Rattle.source_reader.specs.Lines.{item_lines};
 
 use cloud_base::{Memory, Sequence};
 use source_tokens::{Placed, Terminal, Token};

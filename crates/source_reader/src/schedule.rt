@@ -1,7 +1,8 @@
 // Reading schedules. Each reader gives a value and the tokens behind it.
 ghost use Rattle.std.specs.Prelude.{◌≡◌, [], length, option_map, IfOk};
 ghost use Rattle.source_tokens.specs.Scans.{tokens_of};
-ghost use Rattle.source_reader.specs.Sources.{fate_at, number_at, steps_at, serve_at, item_at, items_by, schedule_at};
+ghost use Rattle.source_reader.specs.Sources.{fate_at, number_at, steps_at, serve_at, item_at};
+ghost use Rattle.source_reader.specs.Sources.{items_by, schedule_at};
 
 use crate::token::{behind, name_at, split};
 use cloud_base::{Fate, Memory, Sequence};

@@ -4,7 +4,13 @@ ghost use Rattle.source_tokens.specs.Scans.{tokens_of};
 ghost use Rattle.source_tree.specs.declared.expression.Level.TheVariants as level;
 ghost use Rattle.source_tree.specs.declared.statement.Statement.TheVariants as statement;
 ghost use Rattle.source_reader.specs.Reading.{level_at};
-ghost use Rattle.source_reader.specs.Bodies.{operation_at, ended_by, argument_by, change_by, dotted_by, entered_by, assign_by, named_by, new_keys_by, create_by, initial_by, define_by, delete_at, print_by, word_at, else_by, if_by, while_by, all_at, for_all_by, names_by, entries_at, for_entries_by, foreach_by, statement_by, body_by, block_at};
+ghost use Rattle.source_reader.specs.Bodies.{operation_at, ended_by, argument_by, change_by};
+ghost use Rattle.source_reader.specs.Bodies.{dotted_by, entered_by, assign_by, named_by};
+ghost use Rattle.source_reader.specs.Bodies.{new_keys_by, create_by, initial_by, define_by};
+ghost use Rattle.source_reader.specs.Bodies.{delete_at, print_by, word_at, else_by, if_by};
+ghost use Rattle.source_reader.specs.Bodies.{while_by, all_at, for_all_by, names_by, entries_at};
+ghost use Rattle.source_reader.specs.Bodies.{for_entries_by, foreach_by, statement_by, body_by};
+ghost use Rattle.source_reader.specs.Bodies.{block_at};
 
 use crate::expression::{Found, entry_at, keys_at, level_at, raised, within};
 use crate::token::{behind, name_at, split};

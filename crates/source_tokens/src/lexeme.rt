@@ -1,7 +1,11 @@
 // What stands at the front of a text.
-ghost use Rattle.std.specs.Prelude.{◌≡◌, ◌≤◌, ◌+◌, true, false, length, slice_index, IfOk, IfSome, option_map};
+ghost use Rattle.std.specs.Prelude.{◌≡◌, ◌≤◌, ◌+◌, true, false, length, slice_index, IfOk, IfSome};
+ghost use Rattle.std.specs.Prelude.{option_map};
 ghost use Rattle.cloud_base.specs.Values.{IsName, is_letter, is_digit, is_name_byte};
-ghost use Rattle.source_tokens.specs.Lexemes.{is_white, comment_length, word_at, digits_at, number_value, word_token, blank, lexeme, symbol_at, lexeme_at, is_plain, judged, literal_behind, literal_lexeme};
+ghost use Rattle.source_tokens.specs.Lexemes.{is_white, comment_length, word_at, digits_at};
+ghost use Rattle.source_tokens.specs.Lexemes.{number_value, word_token, blank, lexeme, symbol_at};
+ghost use Rattle.source_tokens.specs.Lexemes.{lexeme_at, is_plain, judged, literal_behind};
+ghost use Rattle.source_tokens.specs.Lexemes.{literal_lexeme};
 ghost use Rattle.source_tokens.specs.Terminals.{terminal_text};
 ghost use Rattle.source_tokens.specs.declared.token.Token.TheVariants.{Number, Fixed};
 

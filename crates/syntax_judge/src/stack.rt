@@ -1,6 +1,7 @@
 // A stack of the symbols that are still open.
 ghost use Rattle.std.specs.Prelude.{◌≡◌, ◌++◌, IfOk, reverse};
-ghost use Rattle.syntax_judge.specs.Tables.{is_same_kind, is_nullable, are_nullable, table_at, advance_by, advance, outcome, if_found};
+ghost use Rattle.syntax_judge.specs.Tables.{is_same_kind, is_nullable, are_nullable, table_at};
+ghost use Rattle.syntax_judge.specs.Tables.{advance_by, advance, outcome, if_found};
 
 use crate::grammar::productions;
 use crate::kind::Kind;
