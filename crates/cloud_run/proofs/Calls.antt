@@ -1,25 +1,28 @@
 -- What reading a tree and what a call promise, from what their parts did.
-use Rattle.std.proofs.Common.{◌≡◌, ℕ, List, [], ◌∷◌, refl, ap, inl, inr, lit≤}
+use Rattle.std.proofs.Common.{◌≡◌, ℕ, List, [], ◌∷◌, refl, ap, inl, inr, lit≤, ◌∙◌, sym}
 use Rattle.std.specs.Prelude.{Option, Some, None, Ok, Err}
 use Rattle.cloud_base.specs.Causes.{Rose}
-use Rattle.cloud_parse.specs.Form.{Form, IsForm}
+use Rattle.source_tree.specs.declared.program.Program.{Program}
 use Rattle.cloud_parse.specs.Parse.{ParseAnswers}
 use Rattle.cloud_parse.specs.declared.fault.ParseFault.TheVariants as fault
 use Rattle.cloud_parse.specs.declared.fault.Which.{Which}
+use Rattle.cloud_parse.specs.declared.fault.Which.TheVariants as which
+use Rattle.cloud_parse.specs.declared.parsed.Parsed.{Parsed}
+use Rattle.first_form.specs.FirstForm.{FirstForm, IsFirstForm, first_form}
 use Rattle.revision_diagram.specs.Headline.{Headline}
 use Rattle.revision_diagram.specs.Meeting.{below_server}
 use Rattle.step_text.specs.Legible.{Told}
-use Rattle.one_client.specs.Program.{schema_of, trace, events_of, end_of}
+use Rattle.one_client.specs.Program.{schema_of, trace, events_of, end_of, report_of}
 use Rattle.one_client.specs.Steps.{steps_of}
 use Rattle.cloud_run.specs.declared.command.Command.{Command}
-use Rattle.cloud_run.specs.declared.command.Command.TheVariants.{Play}
+use Rattle.cloud_run.specs.declared.command.Command.TheVariants.{Check, Play}
 use Rattle.cloud_run.specs.declared.flows.ReadError.TheVariants as error
 use Rattle.cloud_run.specs.declared.status.Status.{Status}
 use Rattle.cloud_run.specs.declared.status.Status.TheVariants as status
 use Rattle.cloud_run.specs.Flows.{HandedOut, Got, GotPart, ReadsAll, most_read}
 use Rattle.cloud_run.specs.Runs.{ReadsTree, Runs}
-use Rattle.cloud_run.specs.Top.{LeftForm, WritesLawful, text_of}
-use Rattle.cloud_run.proofs.Judged.{left_form, is_form, left_done, left_limit, limit_ended, judges_read_fault, judges_memory, judges_done, judges_write_fault, writes_nothing, not_done, not_words, not_write_fault, refused_accepted}
+use Rattle.cloud_run.specs.Top.{LeftParsed, ReportsRun, IsLawfulText, WritesLawful, text_of}
+use Rattle.cloud_run.proofs.Judged.{OneAnswer, TokensFit, reads, left_parsed, left_done, left_form, left_limit, left_syntax, limit_ended, judges_read_fault, judges_memory, judges_write_fault, writes_nothing, not_done, not_words, not_write_fault, form_refused, refused_accepted}
 
 -- where nothing was read all is left
 pub handed_nothing : (left : Option (List ℕ)) → HandedOut most_read left left
@@ -28,26 +31,38 @@ handed_nothing (Some bytes) = (0, lit≤ tt, refl)
 
 -- the laws of runs, as the programs of one client have them
 abbrev pub RunsLawful : Type 0
-RunsLawful = (f : Form) → Headline (schema_of f) below_server (trace f ∷ []) (end_of f ∷ []) (steps_of (events_of f))
+RunsLawful = (f : FirstForm) → Headline (schema_of f) below_server (trace f ∷ []) (end_of f ∷ []) (steps_of (events_of f))
 
 abbrev pub RunsTold : Type 0
-RunsTold = (f : Form) → IsForm f → Told (schema_of f) (f.client ∷ []) (steps_of (events_of f)) (end_of f ∷ [])
+RunsTold = (f : FirstForm) → IsFirstForm f → Told (schema_of f) (f.client ∷ []) (steps_of (events_of f)) (end_of f ∷ [])
 
--- the report of a tree's run is lawful
-pub writes_lawful : (command : Command) (left held now : Option (List ℕ)) (f : Form) → RunsLawful → RunsTold → LeftForm left f → Got held now (text_of command f) → WritesLawful (Some command) left held now
-writes_lawful Play left held now f headline told form got = (f, steps_of (events_of f), end_of f, form, headline f, got, told f (is_form left f form))
+-- the report of a program's run is lawful
+pub reports_run : (p : Program) (f : FirstForm) (text : List ℕ) → RunsLawful → RunsTold → first_form p ≡ Some f → IsFirstForm f → text ≡ report_of f → ReportsRun p text
+reports_run p f text headline told first is report = record {
+  form = f;
+  steps = steps_of (events_of f);
+  end = end_of f;
+  first = first;
+  lawful = headline f;
+  report = report;
+  told = told f is;
+}
+
+-- what was made lawfully is written lawfully
+pub writes_lawful : (command : Command) (left held now : Option (List ℕ)) (parsed : Parsed) (text : List ℕ) → LeftParsed left parsed → IsLawfulText command parsed.tree text → Got held now text → WritesLawful (Some command) left held now
+writes_lawful Check left held now parsed text said lawful got = tt
+writes_lawful Play left held now parsed text said lawful got = (parsed, text, said, lawful, got)
 
 module _ {S : Type 0} (left : S → Option (List ℕ)) (faults ends : S → ℕ) (source source' : S) where
   pub reading_failed : ReadsAll left faults ends source source' (Err error.Failed) → ReadsTree left faults ends source source' (Err status.ReadFault)
   reading_failed r = record {
-    form = tt;
-    accepted = tt;
+    tree = tt;
     end = tt;
     seen = tt;
     later = r.reads.later;
     refusal = tt;
-    judged = λ command. judges_read_fault command (left source);
-    ended = λ command. r.reads.unended;
+    judged = λ command is. judges_read_fault command (left source);
+    ended = λ command is. r.reads.unended;
     read_fault = λ is. r.reads.fault refl;
     no_read_fault = λ no. absurd (no refl);
     handed = r.reads.handed;
@@ -55,14 +70,13 @@ module _ {S : Type 0} (left : S → Option (List ℕ)) (faults ends : S → ℕ)
 
   pub reading_wants : ReadsAll left faults ends source source' (Err error.Memory) → ReadsTree left faults ends source source' (Err status.Memory)
   reading_wants r = record {
-    form = tt;
-    accepted = tt;
+    tree = tt;
     end = tt;
     seen = tt;
     later = r.reads.later;
     refusal = tt;
-    judged = λ command. judges_memory command (left source);
-    ended = λ command. r.reads.later;
+    judged = λ command is. judges_memory command (left source);
+    ended = λ command is. r.reads.later;
     read_fault = λ is. cc;
     no_read_fault = λ no. r.reads.no_fault (λ is. cc);
     handed = r.reads.handed;
@@ -70,14 +84,13 @@ module _ {S : Type 0} (left : S → Option (List ℕ)) (faults ends : S → ℕ)
 
   pub parsing_wants : (taken : List ℕ) → ReadsAll left faults ends source source' (Ok taken) → ReadsTree left faults ends source source' (Err status.Memory)
   parsing_wants taken r = record {
-    form = tt;
-    accepted = tt;
+    tree = tt;
     end = tt;
     seen = tt;
     later = r.reads.later;
     refusal = tt;
-    judged = λ command. judges_memory command (left source);
-    ended = λ command. r.reads.later;
+    judged = λ command is. judges_memory command (left source);
+    ended = λ command is. r.reads.later;
     read_fault = λ is. cc;
     no_read_fault = λ no. r.reads.no_fault (λ is. cc);
     handed = r.reads.handed;
@@ -85,25 +98,37 @@ module _ {S : Type 0} (left : S → Option (List ℕ)) (faults ends : S → ℕ)
 
   pub parsing_limits : (taken : List ℕ) (w : Which) → ReadsAll left faults ends source source' (Ok taken) → ParseAnswers taken (Err (fault.Limit w)) → ReadsTree left faults ends source source' (Err (status.Limit w))
   parsing_limits taken w r said = record {
-    form = tt;
-    accepted = tt;
+    tree = tt;
     end = tt;
     seen = tt;
     later = r.reads.later;
     refusal = tt;
-    judged = λ command. left_limit command w (left source) (left source') taken r.parts r.end said;
-    ended = λ command. limit_ended command w (ends source) (ends source') taken r.seen r.unseen said;
+    judged = λ command is. left_limit command w (left source) (left source') taken r.parts r.end said;
+    ended = λ command is. limit_ended command w (ends source) (ends source') taken r.seen r.unseen said;
     read_fault = λ is. cc;
     no_read_fault = λ no. r.reads.no_fault (λ is. cc);
     handed = r.reads.handed;
   }
 
-  pub parsing_answers : (taken : List ℕ) (f : Form) → ReadsAll left faults ends source source' (Ok taken) → ParseAnswers taken (Ok f) → ReadsTree left faults ends source source' (Ok f)
-  parsing_answers taken f r said = record {
-    form = left_form (left source) (left source') taken f r.parts (r.end said.0) said.1;
-    accepted = left_done (left source) (left source') taken f r.parts (r.end said.0) said.0 said.1;
-    end = r.end said.0;
-    seen = r.seen said.0;
+  pub parsing_places : (taken : List ℕ) (line column : ℕ) → ReadsAll left faults ends source source' (Ok taken) → ParseAnswers taken (Err (fault.Syntax line column)) → ReadsTree left faults ends source source' (Err (status.Syntax line column))
+  parsing_places taken line column r said = record {
+    tree = tt;
+    end = tt;
+    seen = tt;
+    later = r.reads.later;
+    refusal = tt;
+    judged = λ command is. left_syntax command line column (left source) (left source') taken r.parts r.end said;
+    ended = λ command is. r.seen said.readable.bytes;
+    read_fault = λ is. cc;
+    no_read_fault = λ no. r.reads.no_fault (λ is. cc);
+    handed = r.reads.handed;
+  }
+
+  pub parsing_answers : (taken : List ℕ) (parsed : Parsed) → TokensFit → ReadsAll left faults ends source source' (Ok taken) → ParseAnswers taken (Ok parsed) → ReadsTree left faults ends source source' (Ok parsed)
+  parsing_answers taken parsed fit r said = record {
+    tree = left_parsed fit (left source) (left source') taken parsed r.parts (r.end said.0.bytes) said;
+    end = r.end said.0.bytes;
+    seen = r.seen said.0.bytes;
     later = r.reads.later;
     refusal = tt;
     judged = tt;
@@ -134,25 +159,25 @@ module _ {S K : Type 0} (left : S → Option (List ℕ)) (faults ends : S → �
   }
 
   module _ (command : Command) (source source' : S) where
-    -- a source that isn't read, or breaks a limit
-    pub refused : (s : Status) (sink : K) → ReadsTree left faults ends source source' (Err s) → Runs left faults ends holds sink_faults (Some command) s source source' sink sink
-    refused s sink r = record {
+    -- a source that isn't read, or of which parsing answers no tree
+    pub refused : (s : Status) (sink : K) → OneAnswer → ReadsTree left faults ends source source' (Err s) → Runs left faults ends holds sink_faults (Some command) s source source' sink sink
+    refused s sink one r = record {
       words = (λ is. absurd (not_words s r.refusal is), λ none. cc);
       unread = λ is. absurd (not_words s r.refusal is);
       read_fault = λ is. r.read_fault (ap Err is);
       no_read_fault = λ no. r.no_read_fault (λ is. no cc);
       write_fault = λ is. absurd (not_write_fault s r.refusal is);
       no_write_fault = λ no. refl;
-      judged = r.judged command;
-      ended = r.ended command;
+      judged = r.judged command (reads command);
+      ended = r.ended command (reads command);
       handed = r.handed;
       written = writes_nothing command s (left source) (left source') (holds sink) r.refusal;
       silent = λ not_done not_fault. refl;
       lawful = λ is. absurd (not_done s r.refusal is);
-      complete = λ accepted no_fault no_sink_fault. refused_accepted command s (left source) r.refusal (r.judged command) accepted (λ is. no_fault (r.read_fault (ap Err is)));
+      complete = λ accepted no_fault no_sink_fault. refused_accepted one command s (left source) r.refusal (r.judged command (reads command)) accepted (λ is. no_fault (r.read_fault (ap Err is)));
     }
 
-    module _ (f : Form) (r : ReadsTree left faults ends source source' (Ok f)) where
+    module _ (parsed : Parsed) (r : ReadsTree left faults ends source source' (Ok parsed)) where
       -- want of memory for the text
       pub text_wants : (sink : K) → Runs left faults ends holds sink_faults (Some command) status.Memory source source' sink sink
       text_wants sink = record {
@@ -171,40 +196,62 @@ module _ {S K : Type 0} (left : S → Option (List ℕ)) (faults ends : S → �
         complete = λ accepted no_fault no_sink_fault. inr refl;
       }
 
+      -- a program that the command doesn't take
+      pub not_in_form : (sink : K) → OneAnswer → text_of command parsed.tree ≡ None → Runs left faults ends holds sink_faults (Some command) (status.Limit which.Form) source source' sink sink
+      not_in_form sink one none = record {
+        words = (λ is. cc, λ none. cc);
+        unread = λ is. cc;
+        read_fault = λ is. cc;
+        no_read_fault = λ no. r.no_read_fault (λ is. cc);
+        write_fault = λ is. cc;
+        no_write_fault = λ no. refl;
+        judged = left_form command (left source) parsed r.tree none;
+        ended = r.seen;
+        handed = r.handed;
+        written = refl;
+        silent = λ not_done not_fault. refl;
+        lawful = λ is. cc;
+        complete = λ accepted no_fault no_sink_fault. absurd (form_refused one command (left source) (left_form command (left source) parsed r.tree none) accepted);
+      }
+
       -- the sink took the whole text
-      pub written_whole : (sink sink' : K) → RunsLawful → RunsTold → sink_faults sink' ≡ sink_faults sink → Got (holds sink) (holds sink') (text_of command f)
+      pub written_whole : (text : List ℕ) (sink sink' : K) → text_of command parsed.tree ≡ Some text → IsLawfulText command parsed.tree text → sink_faults sink' ≡ sink_faults sink → Got (holds sink) (holds sink') text
           → Runs left faults ends holds sink_faults (Some command) status.Done source source' sink sink'
-      written_whole sink sink' headline told stands got = record {
+      written_whole text sink sink' makes lawful stands got = record {
         words = (λ is. cc, λ none. cc);
         unread = λ is. cc;
         read_fault = λ is. cc;
         no_read_fault = λ no. r.no_read_fault (λ is. cc);
         write_fault = λ is. cc;
         no_write_fault = λ no. stands;
-        judged = judges_done command (left source) r.accepted;
+        judged = left_done command (left source) parsed text r.tree makes;
         ended = r.seen;
         handed = r.handed;
-        written = (f, r.form, r.end, got);
+        written = (parsed, text, r.tree, makes, r.end, got);
         silent = λ not_done not_fault. absurd (not_done refl);
-        lawful = λ is. writes_lawful command (left source) (holds sink) (holds sink') f headline told r.form got;
+        lawful = λ is. writes_lawful command (left source) (holds sink) (holds sink') parsed text r.tree lawful got;
         complete = λ accepted no_fault no_sink_fault. inl refl;
       }
 
       -- the sink failed
-      pub written_part : (sink sink' : K) → Rose (sink_faults sink) (sink_faults sink') → GotPart (holds sink) (holds sink') (text_of command f)
+      pub written_part : (text : List ℕ) (sink sink' : K) → text_of command parsed.tree ≡ Some text → Rose (sink_faults sink) (sink_faults sink') → GotPart (holds sink) (holds sink') text
           → Runs left faults ends holds sink_faults (Some command) status.WriteFault source source' sink sink'
-      written_part sink sink' rose got = record {
+      written_part text sink sink' makes rose got = record {
         words = (λ is. cc, λ none. cc);
         unread = λ is. cc;
         read_fault = λ is. cc;
         no_read_fault = λ no. r.no_read_fault (λ is. cc);
         write_fault = λ is. rose;
         no_write_fault = λ no. absurd (no refl);
-        judged = judges_write_fault command (left source) (judges_done command (left source) r.accepted);
+        judged = judges_write_fault command (left source) (left_done command (left source) parsed text r.tree makes);
         ended = r.seen;
         handed = r.handed;
-        written = (f, r.form, r.end, got);
+        written = (parsed, text, r.tree, makes, r.end, got);
         silent = λ not_done not_fault. absurd (not_fault refl);
         lawful = λ is. cc;
         complete = λ accepted no_fault no_sink_fault. absurd (no_sink_fault rose);
       }
+
+pub ruleset reading = (reading_failed, reading_wants, parsing_wants, parsing_limits, parsing_places, parsing_answers)
+
+pub ruleset ending = (text_wants, written_whole, written_part)

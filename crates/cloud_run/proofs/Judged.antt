@@ -1,53 +1,131 @@
 -- Laws of what each status says of a source.
-use Rattle.std.proofs.Common.{◌≡◌, ◌≢◌, ℕ, ◌<◌, ◌≤◌, List, [], ◌++◌, length, refl, sym, ap, ◌∙◌, append-nil, length-append, subst, arith, inr}
-use Rattle.std.specs.Prelude.{Option, Some, None, Err, ◌⊎◌}
+use Rattle.std.proofs.Common.{◌≡◌, ◌≢◌, ℕ, ◌<◌, ◌≤◌, List, [], ◌++◌, length, refl, sym, ap, ◌∙◌, append-nil, length-append, subst, arith, inl, inr}
+use Rattle.std.specs.Prelude.{Option, Some, None, Result, Ok, Err, ◌⊎◌, IsTrue}
+use Rattle.std.specs.List.{AllByRecursion}
 use Rattle.cloud_base.specs.Causes.{Rose}
-use Rattle.cloud_parse.specs.Form.{Form, IsForm, HasForm}
-use Rattle.cloud_parse.specs.Parse.{most_source_bytes, ParseAnswers}
+use Rattle.source_tokens.specs.Scans.{scan, tokens_of, IsToken}
+use Rattle.source_tree.specs.Limits.{IsTree}
+use Rattle.cloud_parse.specs.Parse.{most_source_bytes, TellsLimit, ParseAnswers}
+use Rattle.cloud_parse.specs.declared.fault.ParseFault.{ParseFault}
 use Rattle.cloud_parse.specs.declared.fault.ParseFault.TheVariants as fault
 use Rattle.cloud_parse.specs.declared.fault.Which.{Which}
 use Rattle.cloud_parse.specs.declared.fault.Which.TheVariants as which
+use Rattle.cloud_parse.specs.declared.parsed.Parsed.{Parsed}
 use Rattle.cloud_run.specs.declared.command.Command.{Command}
-use Rattle.cloud_run.specs.declared.command.Command.TheVariants.{Play}
+use Rattle.cloud_run.specs.declared.command.Command.TheVariants.{Check, Play}
 use Rattle.cloud_run.specs.declared.status.Status.{Status}
 use Rattle.cloud_run.specs.declared.status.Status.TheVariants as status
+use Rattle.cloud_run.specs.Commands.{reads_source}
 use Rattle.cloud_run.specs.Flows.{Parts, AtEnd}
 use Rattle.cloud_run.specs.Runs.{IsReadRefusal}
-use Rattle.cloud_run.specs.Top.{Judges, JudgesLeft, EndSeen, LeftForm, Writes, Accepted}
+use Rattle.cloud_run.specs.Top.{text_of, Accepts, Judges, JudgesLeft, EndSeen, LeftParsed, Writes, Accepted}
+
+-- the law of parsing: two answers of a text other than want of memory are one
+abbrev pub OneAnswer : Type 0
+OneAnswer = (text : List ℕ) (a b : Result Parsed ParseFault) → ParseAnswers text a → ParseAnswers text b → a ≢ Err fault.Memory → b ≢ Err fault.Memory → a ≡ b
+
+-- the law of scanning: what tokens of a text are
+abbrev pub TokensFit : Type 0
+TokensFit = (text : List ℕ) → AllByRecursion IsToken (tokens_of (scan text).tokens)
+
+-- each command reads a source so far
+pub reads : (command : Command) → IsTrue (reads_source command)
+reads Check = refl
+reads Play = refl
 
 -- where nothing is left, what was taken is the whole text
 pub whole : (bytes taken left : List ℕ) → bytes ≡ taken ++ left → left ≡ [] → taken ≡ bytes
 whole bytes taken left p e = sym (p ∙ ap (λ l. taken ++ l) e ∙ append-nil taken)
 
--- the tree of what was taken is the tree of the whole text
-pub left_form : (left after : Option (List ℕ)) (taken : List ℕ) (f : Form) → Parts left after taken → AtEnd after → HasForm taken f → LeftForm left f
-left_form None after taken f p e has = has.form
-left_form (Some bytes) None taken f p e has = absurd p
-left_form (Some bytes) (Some rest) taken f p e has = subst (λ text. HasForm text f) (whole bytes taken rest p e) has
+-- what is parsed of a text is a tree
+is_tree : TokensFit → (text : List ℕ) (parsed : Parsed) → ParseAnswers text (Ok parsed) → IsTree parsed.tree
+is_tree fit text parsed said = record { spelled = (tokens_of (scan text).tokens, said.1.spelled, fit text); within = said.2 }
 
--- what has a tree has one within the limits
-pub is_form : (left : Option (List ℕ)) (f : Form) → LeftForm left f → IsForm f
-is_form None f h = h
-is_form (Some text) f h = h.form
+-- what is parsed of what was taken is parsed of the whole text
+pub left_parsed : TokensFit → (left after : Option (List ℕ)) (taken : List ℕ) (parsed : Parsed) → Parts left after taken → AtEnd after → ParseAnswers taken (Ok parsed) → LeftParsed left parsed
+left_parsed fit None after taken parsed p e said = is_tree fit taken parsed said
+left_parsed fit (Some bytes) None taken parsed p e said = absurd p
+left_parsed fit (Some bytes) (Some rest) taken parsed p e said = subst (λ text. ParseAnswers text (Ok parsed)) (whole bytes taken rest p e) said
 
--- what was taken whole and has a tree is accepted
-pub left_done : (left after : Option (List ℕ)) (taken : List ℕ) (f : Form) → Parts left after taken → AtEnd after → length taken ≤ most_source_bytes → HasForm taken f → JudgesLeft (Some Play) status.Done left
-left_done None after taken f p e few has = tt
-left_done (Some bytes) None taken f p e few has = absurd p
-left_done (Some bytes) (Some rest) taken f p e few has = subst (Judges Play status.Done) (whole bytes taken rest p e) (few, (f, has))
+-- what is parsed and taken by a command is accepted
+pub left_done : (command : Command) (left : Option (List ℕ)) (parsed : Parsed) (text : List ℕ) → LeftParsed left parsed → text_of command parsed.tree ≡ Some text → JudgesLeft (Some command) status.Done left
+left_done command None parsed text said makes = tt
+left_done command (Some bytes) parsed text said makes = (parsed, said, λ none. cc)
+
+-- what is parsed and not taken by a command isn't in the first form
+pub left_form : (command : Command) (left : Option (List ℕ)) (parsed : Parsed) → LeftParsed left parsed → text_of command parsed.tree ≡ None → JudgesLeft (Some command) (status.Limit which.Form) left
+left_form command None parsed said none = tt
+left_form command (Some bytes) parsed said none = (parsed, said, none)
+
+-- what breaks another limit than the length isn't too long
+few : (w : Which) (text : List ℕ) → TellsLimit w text → (w ≡ which.Bytes) ⊎ (length text ≤ most_source_bytes)
+few which.Bytes text said = inl refl
+few which.Brackets text said = inr said.0
+few which.Number text said = inr said.readable.bytes
+few which.Text text said = inr said.readable.bytes
+few which.Height text said = inr said.readable.bytes
+few which.Names text said = inr said.readable.bytes
+few which.Clients text said = inr said.readable.bytes
+few which.Steps text said = inr said.readable.bytes
+few which.Form text said = absurd said
+
+-- a limit that parsing tells is what the status says
+limit_judged : (command : Command) (w : Which) (text : List ℕ) → ParseAnswers text (Err (fault.Limit w)) → Judges command (status.Limit w) text
+limit_judged command which.Bytes text said = said
+limit_judged command which.Brackets text said = said
+limit_judged command which.Number text said = said
+limit_judged command which.Text text said = said
+limit_judged command which.Height text said = said
+limit_judged command which.Names text said = said
+limit_judged command which.Clients text said = said
+limit_judged command which.Steps text said = said
+limit_judged command which.Form text said = absurd said
+
+-- and the other way round, but for the first form
+judged_limit : (command : Command) (w : Which) (text : List ℕ) → Judges command (status.Limit w) text
+    → ParseAnswers text (Err (fault.Limit w)) ⊎ ((parsed : Parsed) × ParseAnswers text (Ok parsed) × (text_of command parsed.tree ≡ None))
+judged_limit command which.Bytes text said = inl said
+judged_limit command which.Brackets text said = inl said
+judged_limit command which.Number text said = inl said
+judged_limit command which.Text text said = inl said
+judged_limit command which.Height text said = inl said
+judged_limit command which.Names text said = inl said
+judged_limit command which.Clients text said = inl said
+judged_limit command which.Steps text said = inl said
+judged_limit command which.Form text said = inr said
 
 -- a limit that what was taken breaks is one that the whole text breaks
 pub left_limit : (command : Command) (w : Which) (left after : Option (List ℕ)) (taken : List ℕ) → Parts left after taken → (length taken ≤ most_source_bytes → AtEnd after)
     → ParseAnswers taken (Err (fault.Limit w)) → JudgesLeft (Some command) (status.Limit w) left
 left_limit command w None after taken p e said = tt
 left_limit command w (Some bytes) None taken p e said = absurd p
-left_limit command which.Bytes (Some bytes) (Some rest) taken p e said = omega (arith, said, ap length p, length-append taken rest)
-left_limit command which.Form (Some bytes) (Some rest) taken p e said = subst (Judges command (status.Limit which.Form)) (whole bytes taken rest p (e said.0)) said
+left_limit command w (Some bytes) (Some rest) taken p e said = elim (few w taken said) [
+  | inl is ↦
+      let long : most_source_bytes < length taken = subst (λ v. TellsLimit v taken) is said in
+      let told : ParseAnswers bytes (Err (fault.Limit which.Bytes)) = omega (arith, long, ap length p, length-append taken rest) in
+      limit_judged command w bytes (subst (λ v. ParseAnswers bytes (Err (fault.Limit v))) (sym is) told)
+  | inr short ↦ limit_judged command w bytes (subst (λ text. ParseAnswers text (Err (fault.Limit w))) (whole bytes taken rest p (e short)) said)
+]
+
+-- the place of a syntax fault is that in the whole text
+pub left_syntax : (command : Command) (line column : ℕ) (left after : Option (List ℕ)) (taken : List ℕ) → Parts left after taken → (length taken ≤ most_source_bytes → AtEnd after)
+    → ParseAnswers taken (Err (fault.Syntax line column)) → JudgesLeft (Some command) (status.Syntax line column) left
+left_syntax command line column None after taken p e said = tt
+left_syntax command line column (Some bytes) None taken p e said = absurd p
+left_syntax command line column (Some bytes) (Some rest) taken p e said =
+    subst (λ text. ParseAnswers text (Err (fault.Syntax line column))) (whole bytes taken rest p (e said.readable.bytes)) said
 
 pub limit_ended : (command : Command) (w : Which) (before now : ℕ) (taken : List ℕ) → (length taken ≤ most_source_bytes → Rose before now) → (most_source_bytes < length taken → now ≡ before)
     → ParseAnswers taken (Err (fault.Limit w)) → EndSeen (Some command) (status.Limit w) before now
 limit_ended command which.Bytes before now taken seen unseen said = unseen said
-limit_ended command which.Form before now taken seen unseen said = seen said.0
+limit_ended command which.Brackets before now taken seen unseen said = seen said.0
+limit_ended command which.Number before now taken seen unseen said = seen said.readable.bytes
+limit_ended command which.Text before now taken seen unseen said = seen said.readable.bytes
+limit_ended command which.Height before now taken seen unseen said = seen said.readable.bytes
+limit_ended command which.Names before now taken seen unseen said = seen said.readable.bytes
+limit_ended command which.Clients before now taken seen unseen said = seen said.readable.bytes
+limit_ended command which.Steps before now taken seen unseen said = seen said.readable.bytes
+limit_ended command which.Form before now taken seen unseen said = absurd said
 
 -- a read fault and want of memory say nothing of the text
 pub judges_read_fault : (command : Command) (left : Option (List ℕ)) → JudgesLeft (Some command) status.ReadFault left
@@ -57,10 +135,6 @@ judges_read_fault command (Some text) = tt
 pub judges_memory : (command : Command) (left : Option (List ℕ)) → JudgesLeft (Some command) status.Memory left
 judges_memory command None = tt
 judges_memory command (Some text) = tt
-
--- every command accepts what `play` does
-pub judges_done : (command : Command) (left : Option (List ℕ)) → JudgesLeft (Some Play) status.Done left → JudgesLeft (Some command) status.Done left
-judges_done Play left j = j
 
 -- a write fault says the same of the text as success
 pub judges_write_fault : (command : Command) (left : Option (List ℕ)) → JudgesLeft (Some command) status.Done left → JudgesLeft (Some command) status.WriteFault left
@@ -73,6 +147,7 @@ writes_nothing command status.Done left after held r = absurd r
 writes_nothing command status.Words left after held r = absurd r
 writes_nothing command status.ReadFault left after held r = refl
 writes_nothing command status.WriteFault left after held r = absurd r
+writes_nothing command (status.Syntax line column) left after held r = refl
 writes_nothing command (status.Limit w) left after held r = refl
 writes_nothing command status.Memory left after held r = refl
 
@@ -86,14 +161,44 @@ not_words s r is = subst IsReadRefusal is r
 pub not_write_fault : (s : Status) → IsReadRefusal s → s ≡ status.WriteFault → ⊥
 not_write_fault s r is = subst IsReadRefusal is r
 
+abbrev answers : Parsed → Result Parsed ParseFault
+answers parsed = Ok parsed
+
+abbrev refuses : ParseFault → Result Parsed ParseFault
+refuses f = Err f
+
+-- what a command doesn't take it doesn't accept
+not_taken : OneAnswer → (command : Command) (text : List ℕ) → Accepts command text → ((parsed : Parsed) × ParseAnswers text (Ok parsed) × (text_of command parsed.tree ≡ None)) → ⊥
+not_taken one command text (parsed, said, takes) (other, told, none) =
+    let same : answers other ≡ answers parsed = one text (answers other) (answers parsed) told said (λ e. cc) (λ e. cc) in
+    let is : other ≡ parsed = cc same in
+    takes (subst (λ (p : Parsed). text_of command p.tree ≡ None) is none)
+
+-- what breaks a limit, or has no program, isn't accepted
+not_told : OneAnswer → (command : Command) (text : List ℕ) (f : ParseFault) → Accepts command text → ParseAnswers text (Err f) → f ≢ fault.Memory → ⊥
+not_told one command text f (parsed, said, takes) told differs =
+    let same : answers parsed ≡ refuses f = one text (answers parsed) (refuses f) said told (λ e. cc) (λ e. differs cc) in
+    cc same
+
+limit_refused : OneAnswer → (command : Command) (w : Which) (text : List ℕ) → Judges command (status.Limit w) text → Accepts command text → ⊥
+limit_refused one command w text j a = elim (judged_limit command w text j) [
+  | inl told ↦ not_told one command text (fault.Limit w) a told (λ e. cc)
+  | inr told ↦ not_taken one command text a told
+]
+
+-- a text in no first form isn't accepted
+pub form_refused : OneAnswer → (command : Command) (left : Option (List ℕ)) → JudgesLeft (Some command) (status.Limit which.Form) left → Accepted (Some command) left → ⊥
+form_refused one command None j a = a
+form_refused one command (Some text) j a = not_taken one command text a j
+
 -- an accepted text is refused before writing only by a fault or for want of memory
-pub refused_accepted : (command : Command) (s : Status) (left : Option (List ℕ)) → IsReadRefusal s → JudgesLeft (Some command) s left → Accepted (Some command) left → s ≢ status.ReadFault
+pub refused_accepted : OneAnswer → (command : Command) (s : Status) (left : Option (List ℕ)) → IsReadRefusal s → JudgesLeft (Some command) s left → Accepted (Some command) left → s ≢ status.ReadFault
     → (s ≡ status.Done) ⊎ (s ≡ status.Memory)
-refused_accepted command s None r j a n = absurd a
-refused_accepted command status.Done (Some text) r j a n = absurd r
-refused_accepted command status.Words (Some text) r j a n = absurd r
-refused_accepted command status.ReadFault (Some text) r j a n = absurd (n refl)
-refused_accepted command status.WriteFault (Some text) r j a n = absurd r
-refused_accepted Play (status.Limit which.Bytes) (Some text) r j a n = let e : ⊥ = omega (arith, j, a.0) in absurd e
-refused_accepted Play (status.Limit which.Form) (Some text) r j a n = absurd (j.1 a.1.0 a.1.1)
-refused_accepted command status.Memory (Some text) r j a n = inr refl
+refused_accepted one command s None r j a n = absurd a
+refused_accepted one command status.Done (Some text) r j a n = absurd r
+refused_accepted one command status.Words (Some text) r j a n = absurd r
+refused_accepted one command status.ReadFault (Some text) r j a n = absurd (n refl)
+refused_accepted one command status.WriteFault (Some text) r j a n = absurd r
+refused_accepted one command (status.Syntax line column) (Some text) r j a n = absurd (not_told one command text (fault.Syntax line column) a j (λ e. cc))
+refused_accepted one command (status.Limit w) (Some text) r j a n = absurd (limit_refused one command w text j a)
+refused_accepted one command status.Memory (Some text) r j a n = inr refl

@@ -1,39 +1,37 @@
 -- What a call of the program promises, clause by clause.
-use Rattle.std.specs.Prelude.{◌≡◌, ◌≢◌, ◌↔◌, ◌⊎◌, ℕ, ◌≤◌, List, Option, Some, None, Result, IfOk, OnOk, IfErr, IsErrOf}
+use Rattle.std.specs.Prelude.{◌≡◌, ◌≢◌, ◌↔◌, ◌⊎◌, ℕ, ◌≤◌, ⊤, IsTrue, List, Option, Some, None, Result, IfOk, OnOk, IfErr, IsErrOf}
 use Rattle.cloud_base.specs.Causes.{Rose}
-use Rattle.cloud_parse.specs.Form.{Form}
+use Rattle.cloud_parse.specs.declared.parsed.Parsed.{Parsed}
 use Rattle.cloud_run.specs.declared.command.Command.{Command}
-use Rattle.cloud_run.specs.declared.command.Command.TheVariants.{Play}
 use Rattle.cloud_run.specs.declared.status.Status.{Status}
-use Rattle.cloud_run.specs.declared.status.Status.TheVariants.{Done, Words, ReadFault, WriteFault, Limit, Memory}
+use Rattle.cloud_run.specs.declared.status.Status.TheVariants.{Done, Words, ReadFault, WriteFault, Memory}
+use Rattle.cloud_run.specs.Commands.{reads_source}
 use Rattle.cloud_run.specs.Flows.{most_read, HandedOut, AtEnd}
-use Rattle.cloud_run.specs.Top.{JudgesLeft, EndSeen, LeftForm, Writes, WritesLawful, Accepted}
+use Rattle.cloud_run.specs.Top.{JudgesLeft, EndSeen, LeftParsed, Writes, WritesLawful, Accepted}
 
 -- a refusal that comes before anything is written, but for the words
 abbrev pub IsReadRefusal : Status → Type 0
 IsReadRefusal Done = ⊥
 IsReadRefusal Words = ⊥
-IsReadRefusal ReadFault = Unit {0}
 IsReadRefusal WriteFault = ⊥
-IsReadRefusal (Limit w) = Unit {0}
-IsReadRefusal Memory = Unit {0}
+IsReadRefusal s = ⊤
 
 -- What reading the tree of a source did, by its answer. `left` is what the source tells that it has left, and it counts
 -- faults and ends.
 pub record ReadsTree {S : Type 0} (left : S → Option (List ℕ)) (faults ends : S → ℕ) (source source' : S)
-    (result : Result Form Status) : Type 0 where
-  -- the tree is that of all that was left, which `play` accepts
-  pub form : IfOk result (λ f. LeftForm (left source) f)
-  pub accepted : OnOk result (JudgesLeft (Some Play) Done (left source))
+    (result : Result Parsed Status) : Type 0 where
+  -- the tree is that of all that was left
+  pub tree : IfOk result (λ parsed. LeftParsed (left source) parsed)
   -- then nothing is left, and the count of ends rose
   pub end : OnOk result (AtEnd (left source'))
   pub seen : OnOk result (Rose (ends source) (ends source'))
   -- the count of ends doesn't fall
   pub later : ends source ≤ ends source'
-  -- a refusal is a fault, a limit or want of memory, and says of what was left what it says for each command
+  -- a refusal is of the reading, the place of a syntax fault, a limit or want of memory, and says of what was left what
+  -- it says for each command that reads a source
   pub refusal : IfErr result IsReadRefusal
-  pub judged : IfErr result (λ s. (command : Command) → JudgesLeft (Some command) s (left source))
-  pub ended : IfErr result (λ s. (command : Command) → EndSeen (Some command) s (ends source) (ends source'))
+  pub judged : IfErr result (λ s. (command : Command) → IsTrue (reads_source command) → JudgesLeft (Some command) s (left source))
+  pub ended : IfErr result (λ s. (command : Command) → IsTrue (reads_source command) → EndSeen (Some command) s (ends source) (ends source'))
   -- a read fault comes only where the count of faults rose, and with any other answer that count stands
   pub read_fault : IsErrOf result ReadFault → Rose (faults source) (faults source')
   pub no_read_fault : ¬ IsErrOf result ReadFault → faults source' ≡ faults source
@@ -57,7 +55,7 @@ pub record Runs {S K : Type 0} (left : S → Option (List ℕ)) (faults ends : S
   pub write_fault : status ≡ WriteFault → Rose (sink_faults sink) (sink_faults sink')
   -- with every other status that count stands
   pub no_write_fault : status ≢ WriteFault → sink_faults sink' ≡ sink_faults sink
-  -- the status says whether the command accepts all that the source had left, and else which limit that breaks
+  -- the status says whether the command accepts all that the source had left, and else what is wrong with that
   pub judged : JudgesLeft command status (left source)
   -- the source's end was seen wherever a text was judged, but for one that is too long
   pub ended : EndSeen command status (ends source) (ends source')

@@ -1,5 +1,7 @@
 -- The number and the line of a status.
-use Rattle.std.specs.Prelude.{◌≡◌, refl, ℕ, List, [], ◌∷◌, codes}
+use Rattle.std.specs.Prelude.{◌≡◌, refl, ℕ, List, [], ◌∷◌, ◌++◌, codes, decimal}
+use Rattle.std.specs.Fmt.{digits}
+use Rattle.cloud_parse.specs.declared.fault.Which.{Which}
 use Rattle.cloud_parse.specs.declared.fault.Which.TheVariants as which
 use Rattle.cloud_run.specs.declared.status.Status.{Status}
 use Rattle.cloud_run.specs.declared.status.Status.TheVariants as status
@@ -9,21 +11,38 @@ status_number status.Done = 0
 status_number status.Words = 1
 status_number status.ReadFault = 2
 status_number status.WriteFault = 3
+status_number (status.Syntax line column) = 4
 status_number (status.Limit w) = 6
 status_number status.Memory = 7
+
+abbrev pub limit_name : Which → List ℕ
+limit_name which.Bytes = codes "Bytes"
+limit_name which.Brackets = codes "Brackets"
+limit_name which.Number = codes "Number"
+limit_name which.Text = codes "Text"
+limit_name which.Height = codes "Height"
+limit_name which.Names = codes "Names"
+limit_name which.Clients = codes "Clients"
+limit_name which.Steps = codes "Steps"
+limit_name which.Form = codes "Form"
 
 abbrev pub status_line : Status → List ℕ
 status_line status.Done = []
 status_line status.Words = codes "words"
 status_line status.ReadFault = codes "read fault"
 status_line status.WriteFault = codes "write fault"
-status_line (status.Limit which.Bytes) = codes "limit Bytes"
-status_line (status.Limit which.Form) = codes "limit Form"
+status_line (status.Syntax line column) = codes "syntax " ++ decimal line ++ codes " " ++ decimal column
+status_line (status.Limit w) = codes "limit " ++ limit_name w
 status_line status.Memory = codes "memory"
 
 -- a text that breaks a limit says which
 pub example_limit : (status_number (status.Limit which.Form) ≡ 6) × (status_line (status.Limit which.Form) ≡ codes "limit Form") × (status_line (status.Limit which.Bytes) ≡ codes "limit Bytes")
 example_limit = (refl, refl, refl)
+
+-- a text that no program has says where
+pub example_syntax : (status_number (status.Syntax 3 8) ≡ 4) × (status_line (status.Syntax 3 18) ≡ codes "syntax 3 18")
+unfolding digits
+example_syntax = (refl, refl)
 
 -- a command that did all says nothing
 pub example_done : (status_number status.Done ≡ 0) × (status_line status.Done ≡ [])

@@ -2,8 +2,12 @@
 #![tactic(auto)]
 
 mod arguments;
+#[cfg(test)]
+mod cases;
 mod command;
 mod flows;
+#[cfg(test)]
+mod sources;
 mod status;
 #[cfg(test)]
 mod tests;
@@ -27,7 +31,7 @@ fn main(rt: HostRuntime) -> ExitCode {
         Err(status) => status,
     };
     if status != Status::Done {
-        let _ = eprintln!(rt; "{}", status.line());
+        let _ = eprintln!(rt; "{status}");
     }
     ExitCode::from(status.number())
 }

@@ -1,10 +1,11 @@
 // How a command comes out.
-ghost use Rattle.std.specs.Prelude.{◌≡◌};
-ghost use Rattle.cloud_run.specs.Statuses.{status_number, status_line};
+ghost use Rattle.std.specs.Prelude.{◌≡◌, Some};
+ghost use Rattle.cloud_run.specs.Statuses.{status_number, limit_name, status_line};
 
 use cloud_parse::Which;
+use std::fmt;
 
-/// How a command comes out.
+/// How a command comes out. Its text is what the program says of it on standard error.
 #[derive(Clone, Copy, Debug, PartialEq, Eq)]
 pub enum Status {
     /// The sink took the whole text.
@@ -15,6 +16,9 @@ pub enum Status {
     ReadFault,
     /// A write to the sink failed, or took nothing.
     WriteFault,
+    /// No program has the source text. The place is that of the first token with which no program
+    /// can go on.
+    Syntax { line: u32, column: u32 },
     /// The source text breaks this limit.
     Limit(Which),
     /// Want of memory.
@@ -31,23 +35,41 @@ impl Status {
             Status::Words => 1,
             Status::ReadFault => 2,
             Status::WriteFault => 3,
+            Status::Syntax { .. } => 4,
             Status::Limit(_) => 6,
             Status::Memory => 7,
         }
     }
+}
 
-    /// What the program says of it on standard error.
-    pub fn line(self) -> &'static str
-        ensures { result.now ≡ status_line self }
-    {
-        match self {
-            Status::Done => "",
-            Status::Words => "words",
-            Status::ReadFault => "read fault",
-            Status::WriteFault => "write fault",
-            Status::Limit(Which::Bytes) => "limit Bytes",
-            Status::Limit(Which::Form) => "limit Form",
-            Status::Memory => "memory",
+fn limit_name(which: Which) -> &'static str
+    ensures { result.now ≡ limit_name which }
+{
+    match which {
+        Which::Bytes => "Bytes",
+        Which::Brackets => "Brackets",
+        Which::Number => "Number",
+        Which::Text => "Text",
+        Which::Height => "Height",
+        Which::Names => "Names",
+        Which::Clients => "Clients",
+        Which::Steps => "Steps",
+        Which::Form => "Form",
+    }
+}
+
+impl fmt::Display for Status {
+    ghost output = { λ status. Some (status_line status) };
+
+    fn fmt<W: fmt::Write>(&self, f: &mut fmt::Formatter<W>) -> fmt::Result {
+        match *self {
+            Status::Done => Ok(()),
+            Status::Words => write!(f, "words"),
+            Status::ReadFault => write!(f, "read fault"),
+            Status::WriteFault => write!(f, "write fault"),
+            Status::Syntax { line, column } => write!(f, "syntax {line} {column}"),
+            Status::Limit(which) => write!(f, "limit {}", limit_name(which)),
+            Status::Memory => write!(f, "memory"),
         }
     }
 }

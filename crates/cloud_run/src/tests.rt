@@ -1,5 +1,7 @@
 // Commands over sources and sinks in memory.
 use crate::arguments::given_words;
+use crate::cases::CASES;
+use crate::sources::SOURCES;
 use crate::{Command, Status, Words, top, top_plain};
 use cloud_base::{MemSink, MemSource, StdSink, StdSource};
 use cloud_parse::Which;
@@ -22,29 +24,64 @@ fn words(alloc: Global, given: &[&str]) -> Result<Words, Fail> {
     Ok(words)
 }
 
-// The status and what the sink took of `play` over the text.
-fn played(alloc: Global, text: &str) -> Result<(Status, MemSink), Fail> {
-    let mut source = MemSource::new(alloc, text.as_bytes(), ROOM, None)?;
+// The status and what the sink took of a command over the text.
+fn told(alloc: Global, word: &str, text: &[u8]) -> Result<(Status, MemSink), Fail> {
+    let mut source = MemSource::new(alloc, text, ROOM, None)?;
     let mut sink = MemSink::new(alloc, ROOM, ROOM)?;
-    let words = words(alloc, &["play"])?;
+    let words = words(alloc, &[word])?;
     let status = top_plain(alloc, &words, &mut source, &mut sink);
     Ok((status, sink))
 }
 
-// One client over one global, with so many times this statement.
-fn repeated(alloc: Global, statement: &str, times: u32) -> Result<String, Fail> {
-    let mut text = String::from_str(alloc, "schema { global g : CInt; } client a {")?;
+fn played(alloc: Global, text: &str) -> Result<(Status, MemSink), Fail> {
+    told(alloc, "play", text.as_bytes())
+}
+
+fn checked(alloc: Global, text: &str) -> Result<(Status, MemSink), Fail> {
+    told(alloc, "check", text.as_bytes())
+}
+
+// So many times the middle, between two ends.
+fn around(
+    alloc: Global,
+    before: &str,
+    middle: &str,
+    times: u32,
+    behind: &str,
+) -> Result<String, Fail> {
+    let mut text = String::from_str(alloc, before)?;
     for _ in 0..times {
-        text.push_str(statement)?;
+        text.push_str(middle)?;
     }
-    text.push_str(" }")?;
+    text.push_str(behind)?;
     Ok(text)
 }
 
+// One client over one global, with so many times this statement.
+fn repeated(alloc: Global, statement: &str, times: u32) -> Result<String, Fail> {
+    let before = "schema { global g : CInt; } client a {";
+    around(alloc, before, statement, times, " }")
+}
+
 fn padded(alloc: Global, spaces: u32) -> Result<String, Fail> {
-    let mut text = String::from_str(alloc, SMALL)?;
-    for _ in 0..spaces {
-        text.push(' ')?;
+    around(alloc, SMALL, " ", spaces, "")
+}
+
+// A source of so many globals.
+fn globals(alloc: Global, count: u32) -> Result<String, Fail> {
+    let mut text = String::from_str(alloc, "schema { ")?;
+    for number in 0..count {
+        write!(text, "global g{number} : CInt; ")?;
+    }
+    text.push_str("} client a { }")?;
+    Ok(text)
+}
+
+// A source of so many clients.
+fn clients(alloc: Global, count: u32) -> Result<String, Fail> {
+    let mut text = String::from_str(alloc, "schema { } ")?;
+    for number in 0..count {
+        write!(text, "client a{number} {{ }} ")?;
     }
     Ok(text)
 }
@@ -135,10 +172,10 @@ fn refuses_texts_and_words(rt: HostRuntime) -> Result<(), Fail> {
         let (status, _sink) = played(alloc, padded(alloc, spaces)?.as_str())?;
         assert_eq!(rt; status, wanted, "at {spaces} spaces");
     }
-    let (status, sink) = played(alloc, "schema { } client a {")?;
+    let (status, sink) = played(alloc, "schema { } client a { flush; }")?;
     assert_eq!(rt; status, Status::Limit(Which::Form));
     assert_eq!(rt; status.number(), 6);
-    assert_eq!(rt; status.line(), "limit Form");
+    assert_eq!(rt; status.to_string(alloc)?.as_str(), "limit Form");
     assert!(rt; sink.held().is_empty());
     for given in [&[][..], &["play", "x"][..], &["plays"][..], &["Play"][..]] {
         let mut source = MemSource::new(alloc, SMALL.as_bytes(), 1, Some(0))?;
@@ -148,6 +185,68 @@ fn refuses_texts_and_words(rt: HostRuntime) -> Result<(), Fail> {
             top(&rt, alloc, &words, &mut source, &mut sink),
             Status::Words
         );
+    }
+    Ok(())
+}
+
+#[test]
+fn checks_cases(rt: HostRuntime) -> Result<(), Fail> {
+    let alloc = rt.alloc();
+    for (source, line, written) in CASES {
+        let (status, sink) = checked(alloc, source)?;
+        assert_eq!(rt; status.to_string(alloc)?.as_str(), *line, "at {source}");
+        assert_eq!(rt; sink.held(), written.as_bytes(), "at {source}");
+        if status == Status::Done {
+            let (_, again) = told(alloc, "check", sink.held())?;
+            assert_eq!(rt; again.held(), written.as_bytes(), "at {written}");
+        }
+    }
+    Ok(())
+}
+
+#[test]
+fn prints_canonical_texts(rt: HostRuntime) -> Result<(), Fail> {
+    let alloc = rt.alloc();
+    for (source, canonical) in SOURCES {
+        let (status, sink) = checked(alloc, source)?;
+        assert_eq!(rt; status, Status::Done, "at {source}");
+        assert_eq!(rt; sink.held(), canonical.as_bytes(), "at {source}");
+        let (status, again) = told(alloc, "check", sink.held())?;
+        assert_eq!(rt; status, Status::Done, "at {canonical}");
+        assert_eq!(rt; again.held(), canonical.as_bytes(), "at {canonical}");
+    }
+    Ok(())
+}
+
+#[test]
+fn tells_limits(rt: HostRuntime) -> Result<(), Fail> {
+    let alloc = rt.alloc();
+    let print = "schema { } client a { print ";
+    let quote = "schema { } client a { print \"";
+    let steps = "schema { } client a { } schedule { a 100000; ";
+    for (source, line) in [
+        (around(alloc, print, "9223372036854775807", 1, "; }")?, ""),
+        (
+            around(alloc, print, "9223372036854775808", 1, "; }")?,
+            "limit Number",
+        ),
+        (around(alloc, print, "-", 30, "1; }")?, ""),
+        (around(alloc, print, "-", 31, "1; }")?, "limit Height"),
+        (around(alloc, quote, "x", 128, "\"; }")?, ""),
+        (around(alloc, quote, "x", 129, "\"; }")?, "limit Text"),
+        (globals(alloc, 256)?, ""),
+        (globals(alloc, 257)?, "limit Names"),
+        (clients(alloc, 8)?, ""),
+        (clients(alloc, 9)?, "limit Clients"),
+        (around(alloc, steps, "a 1; ", 0, "}")?, ""),
+        (around(alloc, steps, "a 1; ", 1, "}")?, "limit Steps"),
+        (padded(alloc, 262_121)?, ""),
+        (padded(alloc, 262_122)?, "limit Bytes"),
+        (around(alloc, "", "(", 64, "")?, "syntax 1 1"),
+        (around(alloc, "", "(", 65, "")?, "limit Brackets"),
+    ] {
+        let (status, _sink) = checked(alloc, source.as_str())?;
+        assert_eq!(rt; status.to_string(alloc)?.as_str(), line, "at {source}");
     }
     Ok(())
 }
@@ -215,6 +314,7 @@ fn the_first_argument_is_no_word(rt: HostRuntime) -> Result<(), Fail> {
     let alloc = rt.alloc();
     for (given, command) in [
         (&["cloud", "play"][..], Some(Command::Play)),
+        (&["cloud", "check"][..], Some(Command::Check)),
         (&["cloud", "", "play"][..], None),
         (&["play"][..], None),
         (&[][..], None),

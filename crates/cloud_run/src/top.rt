@@ -1,24 +1,28 @@
 // The top call: one command, from the source's bytes to the sink's.
-ghost use Rattle.std.specs.Prelude.{◌≡◌, Some, IfOk};
+ghost use Rattle.std.specs.Prelude.{◌≡◌, Some, IfOk, IfSome};
 ghost use Rattle.cloud_run.specs.Commands.{command_of};
 ghost use Rattle.cloud_run.specs.Runs.{ReadsTree, Runs};
-ghost use Rattle.cloud_run.specs.Top.{text_of};
+ghost use Rattle.cloud_run.specs.Top.{ReportsRun, text_of, IsLawfulText};
 
 use crate::command::Command;
 use crate::flows::{ReadError, take_all, write_all};
 use crate::status::Status;
 use crate::words::Words;
-use cloud_base::{Failed, Memory, Sink, Source};
+use cloud_base::{Failed, Memory, Sequence, Sink, Source};
 use cloud_drive::play;
-use cloud_parse::{ParseFault, Tree, parse};
+use cloud_parse::{ParseFault, Parsed, Which, one_answer, parse};
+use first_form::first_form;
 use one_client::{reports_tell_runs, runs_are_lawful};
+use source_print::print;
+use source_tokens::scanned_tokens;
+use source_tree::Tree;
 use std::alloc::Global;
 use std::sync::Wait;
 use std::thread::Threads;
 
-// The tree of all that the source has left.
-#[tactic(auto, using(crate::proofs::Calls::reading_failed, crate::proofs::Calls::reading_wants, crate::proofs::Calls::parsing_wants, crate::proofs::Calls::parsing_limits, crate::proofs::Calls::parsing_answers))]
-fn read_tree<S: Source>(alloc: Global, source: &mut S) -> Result<Tree, Status>
+// What is parsed of all that the source has left.
+#[tactic(auto, using(crate::proofs::Calls::reading))]
+fn read_tree<S: Source>(alloc: Global, source: &mut S) -> Result<Parsed, Status>
     ensures { ReadsTree S.left S.faults S.ends source.old source.new result }
 {
     let text = match take_all(alloc, &mut *source) {
@@ -26,45 +30,66 @@ fn read_tree<S: Source>(alloc: Global, source: &mut S) -> Result<Tree, Status>
         Err(ReadError::Failed) => return Err(Status::ReadFault),
         Err(ReadError::Memory) => return Err(Status::Memory),
     };
+    scanned_tokens();
     match parse(alloc, text.as_slice()) {
-        Ok(tree) => Ok(tree),
+        Ok(parsed) => Ok(parsed),
         Err(ParseFault::Limit(which)) => Err(Status::Limit(which)),
+        Err(ParseFault::Syntax { line, column }) => Err(Status::Syntax { line, column }),
         Err(ParseFault::Memory) => Err(Status::Memory),
     }
 }
 
-// The text that the command makes of a tree.
-fn text_of(alloc: Global, command: Command, tree: &Tree) -> Result<Vec<u8>, Memory>
-    ensures { IfOk result (λ text. text.items ≡ text_of command tree.now) }
+// The report of a run of a program in the first form.
+#[tactic(auto, using(crate::proofs::Calls::reports_run))]
+fn report(alloc: Global, tree: &Tree) -> Result<Option<Sequence<u8>>, Memory>
+    ensures text { IfOk result (λ text. text ≡ text_of Command.Play tree.now) }
+    ensures lawful { IfOk result (λ text. IfSome text (ReportsRun tree.now)) }
+{
+    let Some(program) = first_form(alloc, tree.program())? else {
+        return Ok(None);
+    };
+    let _ = program.client();
+    runs_are_lawful();
+    reports_tell_runs();
+    let text = play(alloc, &program)?;
+    Ok(Some(Sequence::from_vec(text)))
+}
+
+// The text that the command makes of a tree, if it takes the tree.
+fn text_of(alloc: Global, command: Command, tree: &Tree) -> Result<Option<Sequence<u8>>, Memory>
+    ensures text { IfOk result (λ text. text ≡ text_of command tree.now) }
+    ensures lawful { IfOk result (λ text. IfSome text (IsLawfulText command tree.now)) }
 {
     match command {
-        Command::Play => play(alloc, tree),
+        Command::Check => Ok(Some(Sequence::from_vec(print(alloc, tree)?))),
+        Command::Play => report(alloc, tree),
     }
 }
 
 // Does what the command says. It reads the source to its end before it writes.
-#[tactic(auto, using(crate::proofs::Calls::text_wants, crate::proofs::Calls::written_whole, crate::proofs::Calls::written_part))]
+#[tactic(auto, using(crate::proofs::Calls::ending))]
 fn obey<S: Source, K: Sink>(alloc: Global, command: Command, source: &mut S, sink: &mut K) -> Status
     ensures { Runs S.left S.faults S.ends K.holds K.faults (Some command) result
         source.old source.new sink.old sink.new }
 {
-    let tree = match read_tree(alloc, &mut *source) {
-        Ok(tree) => tree,
+    one_answer();
+    let parsed = match read_tree(alloc, &mut *source) {
+        Ok(parsed) => parsed,
         Err(status) => return status,
     };
-    let Ok(text) = text_of(alloc, command, &tree) else {
-        return Status::Memory;
+    let text = match text_of(alloc, command, &parsed.tree) {
+        Ok(Some(text)) => text,
+        Ok(None) => return Status::Limit(Which::Form),
+        Err(Memory) => return Status::Memory,
     };
-    runs_are_lawful();
-    reports_tell_runs();
     match write_all(&mut *sink, text.as_slice()) {
         Ok(()) => Status::Done,
         Err(Failed) => Status::WriteFault,
     }
 }
 
-/// Runs the command that the words are, for every command that doesn't wait. `play` reads the
-/// source to its end, and writes the report of its run.
+/// Runs the command that the words are, for every command that doesn't wait. Each reads the source
+/// to its end; then `check` writes its canonical text, and `play` the report of its run.
 #[tactic(auto, using(crate::proofs::Calls::no_command))]
 pub fn top_plain<S: Source, K: Sink>(
     alloc: Global,

@@ -83,6 +83,7 @@ impl Words {
         ensures { result ≡ command_of self.now }
     {
         match self.words.as_slice() {
+            [word] if word.is("check") => Some(Command::Check),
             [word] if word.is("play") => Some(Command::Play),
             _ => None,
         }
@@ -90,8 +91,10 @@ impl Words {
 }
 
 /// The words of each command. No others are its.
-#[tactic(auto, using(crate::proofs::Played::play_words))]
+#[tactic(auto, using(crate::proofs::Played::check_words, crate::proofs::Played::play_words))]
 pub fn words_of_commands()
+    ensures check { (words : List (List ℕ)) →
+        (command_of words ≡ Some Command.Check) ↔ (words ≡ codes "check" ∷ []) }
     ensures play { (words : List (List ℕ)) →
         (command_of words ≡ Some Command.Play) ↔ (words ≡ codes "play" ∷ []) }
 {}
