@@ -5,6 +5,8 @@ mod declaration;
 mod expression;
 mod printer;
 mod statement;
+#[cfg(test)]
+mod tests;
 mod value;
 
 pub use printer::{print, print_program};
