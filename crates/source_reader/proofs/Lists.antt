@@ -119,3 +119,13 @@ pub clients_end : (k : ℕ) (block : List Token → Reads (List Statement)) (xs 
 unfolding clients_by
 clients_end zero block xs tokens is = refl
 clients_end (suc k) block xs tokens is = ap (λ o. elim o [ None ↦ Some (xs, tokens) | Some ts ↦ client_by block ts >>= λ client. clients_by k block (xs ++ client.0 ∷ []) client.1 ]) is
+
+pub ruleset keys = (key_list_step, key_list_end)
+
+pub ruleset properties = (property_list_step, property_list_end, property_list_closed, property_list_fails)
+
+pub ruleset declared = (declarations_step, declarations_closed, declarations_fail)
+
+pub ruleset items = (items_step, items_closed, items_fail)
+
+pub ruleset clients = (clients_step, clients_end, clients_fail)

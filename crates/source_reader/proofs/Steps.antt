@@ -51,3 +51,7 @@ pub keys_closed : (m n : ℕ) (inner : Reader) (high : ℕ) (keys : List Express
     → keys_by (m - n) inner high keys h tokens ≡ Some (keys ++ key ∷ [], max h i, rest)
 keys_closed m n inner high keys key h i tokens after rest more read is closed =
     keys_end m n inner high keys key h i tokens after more read is ∙ ap (λ o. o >>= λ rest. Some (keys ++ key ∷ [], max h i, rest)) closed
+
+pub ruleset keys = (keys_step, keys_end)
+
+pub ruleset inner = (level_inner)

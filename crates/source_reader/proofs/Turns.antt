@@ -65,3 +65,7 @@ pub block_fails : (depth high : ℕ) (tokens : List Token) → behind t.OpenBrac
 unfolding block_at
 block_fails zero high tokens is = refl
 block_fails (suc depth) high tokens is = rw is refl
+
+pub ruleset names = (names_step, names_end)
+
+pub ruleset bodies = (body_step, body_closed)

@@ -59,7 +59,7 @@ fn key_at<'a>(alloc: Global, tokens: &'a [Placed]) -> Result<Option<(Key, &'a [P
 }
 
 // The declared keys, up to the closing bracket.
-#[tactic(auto, using(crate::proofs::Lists::key_list_step, crate::proofs::Lists::key_list_end), unfolding(crate::specs::Sources::key_list_by))]
+#[tactic(auto, using(crate::proofs::Lists::keys), unfolding(crate::specs::Sources::key_list_by))]
 fn key_list_at<'a>(
     alloc: Global,
     tokens: &'a [Placed],
@@ -109,7 +109,7 @@ fn property_at<'a>(
 }
 
 // The properties, up to the closing brace.
-#[tactic(auto, using(crate::proofs::Lists::property_list_step, crate::proofs::Lists::property_list_end, crate::proofs::Lists::property_list_closed, crate::proofs::Lists::property_list_fails), unfolding(crate::specs::Sources::property_list_by))]
+#[tactic(auto, using(crate::proofs::Lists::properties), unfolding(crate::specs::Sources::property_list_by))]
 fn property_list_at<'a>(
     alloc: Global,
     tokens: &'a [Placed],
@@ -247,7 +247,7 @@ fn declaration_at<'a>(
 }
 
 // The declarations, up to the closing brace.
-#[tactic(auto, using(crate::proofs::Lists::declarations_step, crate::proofs::Lists::declarations_closed, crate::proofs::Lists::declarations_fail), unfolding(crate::specs::Sources::declarations_by))]
+#[tactic(auto, using(crate::proofs::Lists::declared), unfolding(crate::specs::Sources::declarations_by))]
 fn declarations_at<'a>(
     alloc: Global,
     tokens: &'a [Placed],

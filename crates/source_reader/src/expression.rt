@@ -100,7 +100,7 @@ fn alive_at<'a>(
 
 // The keys of an entry, up to the closing bracket.
 #[cycle(expression)]
-#[tactic(auto, using(crate::proofs::Steps::keys_step, crate::proofs::Steps::keys_end), unfolding(crate::specs::Reading::keys_by))]
+#[tactic(auto, using(crate::proofs::Steps::keys), unfolding(crate::specs::Reading::keys_by))]
 pub fn keys_at<'a>(
     alloc: Global,
     depth: usize,
@@ -365,7 +365,7 @@ pub fn level_by<'a>(
 
 // An expression of a level, with at most so many brackets and prefix operators round its parts.
 #[cycle(expression)]
-#[tactic(auto, using(crate::proofs::Steps::level_inner), unfolding(crate::specs::Reading::level_at))]
+#[tactic(auto, using(crate::proofs::Steps::inner), unfolding(crate::specs::Reading::level_at))]
 pub fn level_at<'a>(
     alloc: Global,
     depth: usize,

@@ -344,7 +344,7 @@ fn entries_at(tokens: &[Placed]) -> Option<(&Identifier, &Identifier, &[Placed])
 }
 
 // The names of a listing of entries.
-#[tactic(auto, using(crate::proofs::Turns::names_step, crate::proofs::Turns::names_end), unfolding(crate::specs::Bodies::names_by))]
+#[tactic(auto, using(crate::proofs::Turns::names), unfolding(crate::specs::Bodies::names_by))]
 fn names_at<'a>(
     alloc: Global,
     tokens: &'a [Placed],
@@ -537,7 +537,7 @@ fn statement_at<'a>(
 
 // The statements up to the closing brace.
 #[cycle(body)]
-#[tactic(auto, using(crate::proofs::Turns::body_step, crate::proofs::Turns::body_closed), unfolding(crate::specs::Bodies::body_by))]
+#[tactic(auto, using(crate::proofs::Turns::bodies), unfolding(crate::specs::Bodies::body_by))]
 fn body_at<'a>(
     alloc: Global,
     depth: usize,
