@@ -3,10 +3,12 @@
 
 mod declaration;
 mod expression;
+mod laws;
 mod printer;
 mod statement;
 #[cfg(test)]
 mod tests;
 mod value;
 
+pub use laws::printed_spells;
 pub use printer::{print, print_program};
