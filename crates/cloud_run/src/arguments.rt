@@ -1,5 +1,6 @@
 // The words that the program is given.
-ghost use Rattle.std.specs.Prelude.{◌≡◌, ◌↔◌, ◌⊎◌, drop, map, string_bytes, IfOk, IfErr, IsOkAnd, IsErrAnd, IsErrOf};
+ghost use Rattle.std.specs.Prelude.{◌≡◌, ◌↔◌, ◌⊎◌, drop, map, string_bytes, IfOk, IfErr, IsOkAnd};
+ghost use Rattle.std.specs.Prelude.{IsErrAnd, IsErrOf};
 ghost use Rattle.std.specs.Vec.Iter.{into_iter_items};
 ghost use Rattle.std.specs.IoError.{error_kind};
 

@@ -1,5 +1,6 @@
 // The words of a command.
-ghost use Rattle.std.specs.Prelude.{◌≡◌, ◌↔◌, ℕ, List, [], ◌∷◌, ◌++◌, Some, OnOk, OnErr, IfOk, codes};
+ghost use Rattle.std.specs.Prelude.{◌≡◌, ◌↔◌, ℕ, List, [], ◌∷◌, ◌++◌, Some, OnOk, OnErr, IfOk};
+ghost use Rattle.std.specs.Prelude.{codes};
 ghost use Rattle.std.specs.Str.{bytes_eq};
 ghost use Rattle.cloud_run.specs.Commands.{command_of};
 
