@@ -170,7 +170,7 @@ fn listings(alloc: Global) -> Result<Statement, Fail> {
 fn body(alloc: Global) -> Result<Items<Statement>, Fail> {
     let mut all = list(
         alloc,
-        Statement::Create(named(alloc, "x")?, named(alloc, "E")?, Sequence::new(alloc)),
+        Statement::Create(named(alloc, "x")?, named(alloc, "E")?, Items::new(alloc)),
     )?;
     all.push(entry_update(alloc)?)?;
     all.push(choice(alloc)?)?;
