@@ -151,20 +151,16 @@ fn choice(alloc: Global) -> Result<Statement, Fail> {
     ))
 }
 
+fn deletes(alloc: Global) -> Result<Statement, Fail> {
+    let body = list(alloc, Statement::Delete(named(alloc, "d")?))?;
+    Ok(Statement::ForAll(named(alloc, "d")?, named(alloc, "E")?, body))
+}
+
 fn listings(alloc: Global) -> Result<Statement, Fail> {
     let mut names = sequence(alloc, named(alloc, "k")?)?;
     names.push(named(alloc, "e")?)?;
-    let inner = Statement::ForAll(
-        named(alloc, "d")?,
-        named(alloc, "E")?,
-        list(alloc, Statement::Delete(named(alloc, "d")?))?,
-    );
-    Ok(Statement::ForEntries(
-        names,
-        named(alloc, "A")?,
-        named(alloc, "p")?,
-        list(alloc, inner)?,
-    ))
+    let body = list(alloc, deletes(alloc)?)?;
+    Ok(Statement::ForEntries(names, named(alloc, "A")?, named(alloc, "p")?, body))
 }
 
 fn body(alloc: Global) -> Result<Items<Statement>, Fail> {
