@@ -6,8 +6,6 @@ mod expression;
 mod laws;
 mod printer;
 mod statement;
-#[cfg(test)]
-mod tests;
 mod value;
 
 pub use laws::printed_spells;
