@@ -1,0 +1,9 @@
+// The typed program of a checked source, and what each of its clients does for the answers that it
+// gets.
+#![tactic(auto)]
+
+mod expression;
+mod statement;
+
+pub use expression::{Expression, Kind, Operator};
+pub use statement::{Body, Operation, Statement};
