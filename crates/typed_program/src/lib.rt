@@ -3,7 +3,9 @@
 #![tactic(auto)]
 
 mod expression;
+mod program;
 mod statement;
 
 pub use expression::{Expression, Kind, Operator};
+pub use program::{Parts, Program};
 pub use statement::{Body, Operation, Statement};
