@@ -1,2 +1,4 @@
+pub mod Does
 pub mod Kinds
 pub mod Programs
+pub mod Trace
