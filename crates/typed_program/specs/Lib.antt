@@ -2,3 +2,4 @@ pub mod Does
 pub mod Kinds
 pub mod Programs
 pub mod Trace
+pub mod Laws

@@ -3,9 +3,11 @@
 #![tactic(auto)]
 
 mod expression;
+mod laws;
 mod program;
 mod statement;
 
 pub use expression::{Expression, Kind, Operator};
+pub use laws::{answers_extend, events_grow, loops_begin_anew};
 pub use program::{Parts, Program};
 pub use statement::{Body, Operation, Statement};
