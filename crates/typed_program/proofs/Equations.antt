@@ -13,7 +13,7 @@ use Rattle.typed_program.specs.declared.statement.Statement.{Statement}
 use Rattle.typed_program.specs.declared.statement.Statement.TheVariants as s
 use Rattle.typed_program.specs.declared.statement.Statement.TheOpen.{Statement-F}
 use Rattle.typed_program.specs.declared.statement.Statement.TheFolds.{fold-roll-Statement}
-use Rattle.typed_program.specs.Does.{Does}
+use Rattle.typed_program.specs.Does.{World, Does}
 use Rattle.typed_program.specs.Trace.{value, value_step, does, statement_step}
 
 pub value_int : (line : ℕ) (n : ℤ) → value line (e.Int n) ≡ value_step line (Expression-F.Int n)
@@ -84,3 +84,75 @@ does_yield line = ap does (sym (s.rolls-Yield line)) ∙ fold-roll-Statement (Do
 
 pub does_flush : (line : ℕ) → does (s.Flush line) ≡ statement_step (Statement-F.Flush line)
 does_flush line = ap does (sym (s.rolls-Flush line)) ∙ fold-roll-Statement (Does (Unit {0})) statement_step (Statement-F.Flush line)
+
+-- the same where a world is given, so that runs compute by `simp equations`
+pub value_int_at : (line : ℕ) (n : ℤ) (w : World) → value line (e.Int n) w ≡ value_step line (Expression-F.Int n) w
+value_int_at line n w = ap (λ m. m w) (value_int line n)
+
+pub value_text_at : (line : ℕ) (bytes : List ℕ) (w : World) → value line (e.Text bytes) w ≡ value_step line (Expression-F.Text bytes) w
+value_text_at line bytes w = ap (λ m. m w) (value_text line bytes)
+
+pub value_truth_at : (line : ℕ) (b : Bool) (w : World) → value line (e.Truth b) w ≡ value_step line (Expression-F.Truth b) w
+value_truth_at line b w = ap (λ m. m w) (value_truth line b)
+
+pub value_slot_at : (line n : ℕ) (kind : Kind) (w : World) → value line (e.Slot n kind) w ≡ value_step line (Expression-F.Slot n kind) w
+value_slot_at line n kind w = ap (λ m. m w) (value_slot line n kind)
+
+pub value_get_at : (line p : ℕ) (keys : List Expression) (w : World) → value line (e.Get p keys) w ≡ value_step line (Expression-F.Get p (map (value line) keys)) w
+value_get_at line p keys w = ap (λ m. m w) (value_get line p keys)
+
+pub value_alive_at : (line n entity : ℕ) (w : World) → value line (e.Alive n entity) w ≡ value_step line (Expression-F.Alive n entity) w
+value_alive_at line n entity w = ap (λ m. m w) (value_alive line n entity)
+
+pub value_minus_at : (line : ℕ) (a : Expression) (w : World) → value line (e.Minus a) w ≡ value_step line (Expression-F.Minus (value line a)) w
+value_minus_at line a w = ap (λ m. m w) (value_minus line a)
+
+pub value_not_at : (line : ℕ) (a : Expression) (w : World) → value line (e.Not a) w ≡ value_step line (Expression-F.Not (value line a)) w
+value_not_at line a w = ap (λ m. m w) (value_not line a)
+
+pub value_binary_at : (line : ℕ) (operator : Operator) (a b : Expression) (w : World) → value line (e.Binary operator a b) w ≡ value_step line (Expression-F.Binary operator (value line a) (value line b)) w
+value_binary_at line operator a b w = ap (λ m. m w) (value_binary line operator a b)
+
+pub value_and_at : (line : ℕ) (a b : Expression) (w : World) → value line (e.And a b) w ≡ value_step line (Expression-F.And (value line a) (value line b)) w
+value_and_at line a b w = ap (λ m. m w) (value_and line a b)
+
+pub value_or_at : (line : ℕ) (a b : Expression) (w : World) → value line (e.Or a b) w ≡ value_step line (Expression-F.Or (value line a) (value line b)) w
+value_or_at line a b w = ap (λ m. m w) (value_or line a b)
+
+pub does_store_at : (line n : ℕ) (a : Expression) (w : World) → does (s.Store line n a) w ≡ statement_step (Statement-F.Store line n a) w
+does_store_at line n a w = ap (λ m. m w) (does_store line n a)
+
+pub does_create_at : (line n entity : ℕ) (keys : List Expression) (w : World) → does (s.Create line n entity keys) w ≡ statement_step (Statement-F.Create line n entity keys) w
+does_create_at line n entity keys w = ap (λ m. m w) (does_create line n entity keys)
+
+pub does_update_at : (line property : ℕ) (keys : List Expression) (operator : Operation) (a : Expression) (w : World) → does (s.Update line property keys operator a) w ≡ statement_step (Statement-F.Update line property keys operator a) w
+does_update_at line property keys operator a w = ap (λ m. m w) (does_update line property keys operator a)
+
+pub does_delete_at : (line n entity : ℕ) (w : World) → does (s.Delete line n entity) w ≡ statement_step (Statement-F.Delete line n entity) w
+does_delete_at line n entity w = ap (λ m. m w) (does_delete line n entity)
+
+pub does_if_only_at : (line : ℕ) (a : Expression) (first : List Statement) (w : World) → does (s.If line a first None) w ≡ statement_step (Statement-F.If line a (map does first) None) w
+does_if_only_at line a first w = ap (λ m. m w) (does_if_only line a first)
+
+pub does_if_else_at : (line : ℕ) (a : Expression) (first second : List Statement) (w : World) → does (s.If line a first (Some second)) w ≡ statement_step (Statement-F.If line a (map does first) (Some (map does second))) w
+does_if_else_at line a first second w = ap (λ m. m w) (does_if_else line a first second)
+
+pub does_while_at : (line : ℕ) (a : Expression) (block : List Statement) (w : World) → does (s.While line a block) w ≡ statement_step (Statement-F.While line a (map does block)) w
+does_while_at line a block w = ap (λ m. m w) (does_while line a block)
+
+pub does_for_all_at : (line n entity : ℕ) (block : List Statement) (w : World) → does (s.ForAll line n entity block) w ≡ statement_step (Statement-F.ForAll line n entity (map does block)) w
+does_for_all_at line n entity block w = ap (λ m. m w) (does_for_all line n entity block)
+
+pub does_for_entries_at : (line n property : ℕ) (block : List Statement) (w : World) → does (s.ForEntries line n property block) w ≡ statement_step (Statement-F.ForEntries line n property (map does block)) w
+does_for_entries_at line n property block w = ap (λ m. m w) (does_for_entries line n property block)
+
+pub does_print_at : (line : ℕ) (a : Expression) (w : World) → does (s.Print line a) w ≡ statement_step (Statement-F.Print line a) w
+does_print_at line a w = ap (λ m. m w) (does_print line a)
+
+pub does_yield_at : (line : ℕ) (w : World) → does (s.Yield line) w ≡ statement_step (Statement-F.Yield line) w
+does_yield_at line w = ap (λ m. m w) (does_yield line)
+
+pub does_flush_at : (line : ℕ) (w : World) → does (s.Flush line) w ≡ statement_step (Statement-F.Flush line) w
+does_flush_at line w = ap (λ m. m w) (does_flush line)
+
+pub ruleset equations = (value_int_at, value_text_at, value_truth_at, value_slot_at, value_get_at, value_alive_at, value_minus_at, value_not_at, value_binary_at, value_and_at, value_or_at, does_store_at, does_create_at, does_update_at, does_delete_at, does_if_only_at, does_if_else_at, does_while_at, does_for_all_at, does_for_entries_at, does_print_at, does_yield_at, does_flush_at)

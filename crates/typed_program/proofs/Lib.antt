@@ -1,3 +1,4 @@
 pub mod Equations
 pub mod Orderly
 pub mod Traces
+mod Examples
