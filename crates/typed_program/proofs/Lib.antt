@@ -1,4 +1,8 @@
 pub mod Equations
-pub mod Orderly
-pub mod Traces
 mod Examples
+pub mod Keeps
+pub mod Orderly
+pub mod Shaped
+pub mod Slots
+pub mod Traces
+pub mod Values

@@ -98,7 +98,7 @@ orderly_bind {A = A} {B = B} m f om of = record {
     taken answers (ends (asks q) es) p = p
 
 -- what leaves events, answers and turns
-orderly_done : {A : Type 0} (a : A) → Orderly (done a)
+pub orderly_done : {A : Type 0} (a : A) → Orderly (done a)
 orderly_done a = record {
   grows = λ w. prefix_refl w.events;
   falls = λ w. omega arith;
@@ -106,7 +106,7 @@ orderly_done a = record {
   takes = λ w. refl;
 }
 
-orderly_load : (n : ℕ) → Orderly (load n)
+pub orderly_load : (n : ℕ) → Orderly (load n)
 orderly_load n = record {
   grows = λ w. prefix_refl w.events;
   falls = λ w. omega arith;
@@ -114,7 +114,7 @@ orderly_load n = record {
   takes = λ w. refl;
 }
 
-orderly_store : (n : ℕ) (v : Answer) → Orderly (store n v)
+pub orderly_store : (n : ℕ) (v : Answer) → Orderly (store n v)
 orderly_store n v = record {
   grows = λ w. prefix_refl w.events;
   falls = λ w. omega arith;
@@ -122,7 +122,7 @@ orderly_store n v = record {
   takes = λ w. refl;
 }
 
-orderly_id : Orderly next_id
+pub orderly_id : Orderly next_id
 orderly_id = record {
   grows = λ w. prefix_refl w.events;
   falls = λ w. omega arith;
@@ -133,7 +133,7 @@ orderly_id = record {
 front : {A : Type 0} (xs ys : List A) → IsPrefix xs (xs ++ ys)
 front xs ys = (ys, refl)
 
-orderly_stop : {A : Type 0} (e : End) → Orderly (stop {A = A} e)
+pub orderly_stop : {A : Type 0} (e : End) → Orderly (stop {A = A} e)
 orderly_stop e = record {
   grows = λ w. prefix_refl w.events;
   falls = λ w. tt;
@@ -141,7 +141,7 @@ orderly_stop e = record {
   takes = λ w. front (answers_in w.events) w.answers;
 }
 
-orderly_begin : Orderly begin
+pub orderly_begin : Orderly begin
 orderly_begin = record {
   grows = λ w. grown w w.turns;
   falls = λ w. fallen w w.turns;
@@ -178,7 +178,7 @@ answers_in-append (event.Flush ∷ xs) ys = answers_in-append xs ys
 abbrev pub AsksNothing : Event → Type 0
 AsksNothing e = answers_in (e ∷ []) ≡ []
 
-orderly_tell : (e : Event) → AsksNothing e → Orderly (tell e)
+pub orderly_tell : (e : Event) → AsksNothing e → Orderly (tell e)
 orderly_tell e n = record {
   grows = λ w. front w.events (e ∷ []);
   falls = λ w. omega arith;
@@ -186,7 +186,7 @@ orderly_tell e n = record {
   takes = λ w. ap (λ l. l ++ w.answers) (answers_in-append w.events (e ∷ []) ∙ ap (λ l. answers_in w.events ++ l) n ∙ append-nil (answers_in w.events));
 }
 
-orderly_ask : (q : Query) → Orderly (ask q)
+pub orderly_ask : (q : Query) → Orderly (ask q)
 orderly_ask q = record {
   grows = λ w. grown w w.answers;
   falls = λ w. fallen w w.answers;
@@ -234,7 +234,7 @@ orderly_each : (line : ℕ) (es : List (Claimed line)) → Orderly (each (map (v
 orderly_each line [] = orderly_done []
 orderly_each line (e ∷ es) = orderly_bind (value line e.0) _ e.1 (λ a. orderly_bind (each (map (value line) (map (λ p. p.0) es))) _ (orderly_each line es) (λ rest. orderly_done (a ∷ rest)))
 
-orderly_combine : (line : ℕ) (operator : Operator) (a b : Answer) → Orderly (combine line operator a b)
+pub orderly_combine : (line : ℕ) (operator : Operator) (a b : Answer) → Orderly (combine line operator a b)
 orderly_combine line op.Add a b = orderly_done _
 orderly_combine line op.Subtract a b = orderly_done _
 orderly_combine line op.Multiply a b = orderly_done _
@@ -289,7 +289,7 @@ orderly_keys : (n : ℕ) (keys : List Key) → Orderly (store_keys n keys)
 orderly_keys n [] = orderly_done tt
 orderly_keys n (k ∷ keys) = orderly_bind (store n (value_of k)) _ (orderly_store n (value_of k)) (λ u. orderly_keys (suc n) keys)
 
-orderly_for_tuples : (n : ℕ) (tuples : List (List Key)) (block : Does (Unit {0})) → Orderly block → Orderly (for_tuples n tuples block)
+pub orderly_for_tuples : (n : ℕ) (tuples : List (List Key)) (block : Does (Unit {0})) → Orderly block → Orderly (for_tuples n tuples block)
 orderly_for_tuples n [] block ob = orderly_done tt
 orderly_for_tuples n (keys ∷ tuples) block ob = orderly_bind (store_keys n keys) _ (orderly_keys n keys) (λ u. orderly_bind block _ ob (λ u. orderly_for_tuples n tuples block ob))
 

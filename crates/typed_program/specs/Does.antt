@@ -77,7 +77,7 @@ store n value w = goes tt (record w { slots = slice_set w.slots n value })
 
 -- the id of the next creation
 abbrev pub next_id : Does Id
-next_id w = goes (record { client = w.client; serial = w.serial }) (record w { serial = w.serial + 1 })
+next_id w = goes (record { client = w.client; serial = w.serial }) (record w { serial = suc w.serial })
 
 -- each in order, and all of their values
 abbrev pub each : {A : Type 0} → List (Does A) → Does (List A)

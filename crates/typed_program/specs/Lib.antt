@@ -3,3 +3,4 @@ pub mod Kinds
 pub mod Programs
 pub mod Trace
 pub mod Laws
+pub mod Shapes
