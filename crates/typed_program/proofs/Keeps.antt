@@ -1,39 +1,36 @@
 -- What the steps of a well-kinded body keep.
 use Rattle.std.proofs.Common.{◌≡◌, refl, sym, ap, ◌∙◌, subst, arith}
-use Rattle.std.proofs.Math.Nat.{not-suc-le-zero}
 use Rattle.std.proofs.lemmas.Int.{SFits-int_wrap}
-use Rattle.std.proofs.lemmas.List.{append_assoc, append-nil, length-set}
+use Rattle.std.proofs.lemmas.List.{append-nil, length-set}
 use Rattle.std.proofs.lemmas.List.Elements.{All-nil, All-cons, All-head, All-tail, All-append}
 use Rattle.std.specs.Int.{w64}
-use Rattle.std.specs.Prelude.{ℕ, zero, suc, ◌+◌, ◌-◌, ◌≤◌, ◌<◌, ◌^◌, ⊤, Bool, true, false, List, [], ◌∷◌, ◌++◌, length, map, All, Option, Some, None, slice_get, slice_set, IsTrue, if◌then◌else◌}
+use Rattle.std.specs.Prelude.{ℕ, zero, suc, ◌+◌, ◌≤◌, ◌<◌, Bool, true, false, List, [], ◌∷◌, ◌++◌, length, All, Some, slice_get, slice_set, IsTrue, if◌then◌else◌}
 use mathlib.Core.List.{IsPrefix}
-use Rattle.cloud_base.specs.Values.{Id as Uid, IsText}
+use Rattle.cloud_base.specs.Values.{Id as Uid}
 use Rattle.cloud_base.specs.Log.{created}
 use Rattle.cloud_base.specs.Events.{Outcome, ended, asks, updates_of}
 use Rattle.cloud_base.specs.Shaped.{IsSchema, IsShaped, IsShapedQuery, IsShapedAnswer, IsShapedEvent, IsId}
+use Rattle.cloud_base.proofs.LogLemmas.{created_parts}
 use Rattle.cloud_base.specs.declared.end.End.{End}
-use Rattle.cloud_base.specs.declared.end.End.TheVariants.{Done, Spent, Trap}
+use Rattle.cloud_base.specs.declared.end.End.TheVariants.{Spent, Trap}
 use Rattle.cloud_base.specs.declared.key.Key.{Key}
 use Rattle.cloud_base.specs.declared.schema.Schema.{Schema}
 use Rattle.cloud_base.specs.declared.update.Answer.{Answer}
-use Rattle.cloud_base.specs.declared.update.Answer.TheVariants as answer
 use Rattle.cloud_base.specs.declared.update.Event.{Event}
 use Rattle.cloud_base.specs.declared.update.Event.TheVariants as event
 use Rattle.cloud_base.specs.declared.update.Query.{Query}
-use Rattle.cloud_base.specs.declared.update.Update.{Update}
 use Rattle.cloud_base.specs.declared.update.Update.TheVariants as update
 use Rattle.typed_program.specs.declared.expression.Kind.{Kind}
-use Rattle.typed_program.specs.declared.expression.Kind.TheVariants.{Int, Text, Truth, Id}
 use Rattle.typed_program.specs.declared.expression.Operator.{Operator}
 use Rattle.typed_program.specs.declared.expression.Operator.TheVariants as op
-use Rattle.typed_program.specs.Does.{World, Run, goes, ends, Does, done, stop, tell, ask, ask_next, begin, begin_with, load, store, next_id, ◌>>=◌, then_by, listed}
+use Rattle.typed_program.specs.Does.{World, Run, goes, ends, Does, done, stop, tell, ask, ask_next, begin, begin_with, load, store, next_id, ◌>>=◌, then_by}
 use Rattle.typed_program.specs.Kinds.{IsLine, takes, result_kind}
 use Rattle.typed_program.specs.Laws.{events_of}
 use Rattle.typed_program.specs.Shapes.{IsOf, IsAnswered, IsShapedOutcome, IsShapedTrace, first_ids}
-use Rattle.typed_program.specs.Trace.{budget, int_of, text_of, truth_of, is_zero, combine}
-use Rattle.typed_program.proofs.Orderly.{Orderly, prefix_refl, prefix_trans, orderly_done, orderly_load, orderly_store, orderly_stop, orderly_begin, orderly_tell, orderly_ask, orderly_id, orderly_combine, AsksNothing}
+use Rattle.typed_program.specs.Trace.{text_of, is_zero, combine}
+use Rattle.typed_program.proofs.Orderly.{prefix_trans, orderly_done, orderly_load, orderly_store, orderly_stop, orderly_begin, orderly_tell, orderly_ask, orderly_id, AsksNothing}
 use Rattle.typed_program.proofs.Slots.{Hold, held, hold_set, hold_more, hold_fewer}
-use Rattle.typed_program.proofs.Values.{text_is, cat_is_text, never}
+use Rattle.typed_program.proofs.Values.{text_is, cat_is_text}
 
 -- a client of a schema
 pub record Setting (schema : Schema) : Type 0 where
@@ -123,7 +120,7 @@ pub keeps_turns : {schema : Schema} {c : Setting schema} {A : Type 0} {P : World
 keeps_turns k = record { grows = λ w. (k w.turns).grows w; by = λ w p h. (k w.turns).by w p h }
 
 -- a run that ends in such a world
-ended_at : {schema : Schema} (c : Setting schema) (seen : List Kind) (spare : ℕ) (o : Outcome) (w : World) → Stands c seen spare w → IsShapedOutcome schema o → IsShapedTrace schema c.client (w.events, o)
+pub ended_at : {schema : Schema} (c : Setting schema) (seen : List Kind) (spare : ℕ) (o : Outcome) (w : World) → Stands c seen spare w → IsShapedOutcome schema o → IsShapedTrace schema c.client (w.events, o)
 ended_at c seen spare o w s shaped = record { events = s.events; outcome = shaped; creations = (w.serial, omega (arith, s.serials), s.creations) }
 
 pub keeps_stop : {schema : Schema} {c : Setting schema} {A : Type 0} {P : World → Type 0} {Q : A → World → Type 0} (seen : List Kind) (spare : ℕ) (e : End) → ((w : World) → P w → Stands c seen spare w) → IsShapedOutcome schema (ended e) → Keeps c P (stop {A = A} e) Q
@@ -206,14 +203,8 @@ updates-append (event.Say a ∷ xs) ys = updates-append xs ys
 updates-append (event.Yield ∷ xs) ys = updates-append xs ys
 updates-append (event.Flush ∷ xs) ys = updates-append xs ys
 
-pub created-append : (xs ys : List Update) → created (xs ++ ys) ≡ created xs ++ created ys
-created-append [] ys = refl
-created-append (update.Cell p ks change ∷ xs) ys = created-append xs ys
-created-append (update.Create id e ks ∷ xs) ys = ap (λ l. id ∷ l) (created-append xs ys)
-created-append (update.Delete id ∷ xs) ys = created-append xs ys
-
 pub created_by : (xs : List Event) (e : Event) → created (updates_of (xs ++ e ∷ [])) ≡ created (updates_of xs) ++ created (updates_of (e ∷ []))
-created_by xs e = ap created (updates-append xs (e ∷ [])) ∙ created-append (updates_of xs) (updates_of (e ∷ []))
+created_by xs e = ap created (updates-append xs (e ∷ [])) ∙ created_parts (updates_of xs) (updates_of (e ∷ []))
 
 -- an event that creates nothing
 creates_none : (xs : List Event) (e : Event) → created (updates_of (e ∷ [])) ≡ [] → created (updates_of (xs ++ e ∷ [])) ≡ created (updates_of xs)
@@ -243,14 +234,17 @@ keeps_ask {schema = schema} {c = c} seen spare q s = record { grows = (orderly_a
     asked : (w : World) (answers : List Answer) → Stands c seen spare w → IsShapedQuery schema q → Answered c (events_of (ask_next q answers w))
         → Comes c (λ a v. Stands c seen spare v × IsShapedAnswer schema q a) (ask_next q answers w)
     asked w [] s shaped h = ended_at c seen spare (asks q) w s shaped
-    asked w (a ∷ rest) s shaped h = let fits : IsShapedAnswer schema q a = all_last (IsAnswered schema) w.events (event.Ask q a) h in (record {
-      client_is = s.client_is;
-      slots = s.slots;
-      values = s.values;
-      events = all_and (IsShapedEvent schema) w.events (event.Ask q a) s.events (shaped, fits);
-      serials = omega (arith, s.serials);
-      creations = creates_none w.events (event.Ask q a) refl ∙ s.creations;
-    }, fits)
+    asked w (a ∷ rest) s shaped h = let fits : IsShapedAnswer schema q a = all_last (IsAnswered schema) w.events (event.Ask q a) h in (
+      record {
+        client_is = s.client_is;
+        slots = s.slots;
+        values = s.values;
+        events = all_and (IsShapedEvent schema) w.events (event.Ask q a) s.events (shaped, fits);
+        serials = omega (arith, s.serials);
+        creations = creates_none w.events (event.Ask q a) refl ∙ s.creations;
+      },
+      fits,
+    )
 
 -- between the choice of an id and its creation
 pub record Chosen {schema : Schema} (c : Setting schema) (seen : List Kind) (id : Uid) (w : World) : Type 0 where
@@ -281,14 +275,17 @@ pub keeps_create : {schema : Schema} {c : Setting schema} {P : World → Type 0}
 keeps_create {schema = schema} {c = c} seen id entity keys s = record { grows = (orderly_tell (event.Do (update.Create id entity keys)) refl).grows; by = λ w p h. after w (s w p).0 (s w p).1 }
   where
     after : (w : World) → Chosen c seen id w → (IsId id → IsShaped schema (update.Create id entity keys)) → Stands c seen 0 (record w { events = w.events ++ event.Do (update.Create id entity keys) ∷ [] }) × IsId id
-    after w s shaped = (record {
-      client_is = s.client_is;
-      slots = s.slots;
-      values = s.values;
-      events = all_and (IsShapedEvent schema) w.events (event.Do (update.Create id entity keys)) s.events (shaped s.is_id);
-      serials = omega (arith, s.serials);
-      creations = created_by w.events (event.Do (update.Create id entity keys)) ∙ s.creations;
-    }, s.is_id)
+    after w s shaped = (
+      record {
+        client_is = s.client_is;
+        slots = s.slots;
+        values = s.values;
+        events = all_and (IsShapedEvent schema) w.events (event.Do (update.Create id entity keys)) s.events (shaped s.is_id);
+        serials = omega (arith, s.serials);
+        creations = created_by w.events (event.Do (update.Create id entity keys)) ∙ s.creations;
+      },
+      s.is_id,
+    )
 
 -- an operator on two values of its kind
 pub keeps_combine : {schema : Schema} {c : Setting schema} (seen : List Kind) (spare line : ℕ) (operator : Operator) (kind : Kind) (a b : Answer) → IsLine line → IsTrue (takes operator kind)

@@ -1,5 +1,6 @@
 pub mod Equations
 mod Examples
+pub mod Fits
 pub mod Keeps
 pub mod Orderly
 pub mod Shaped

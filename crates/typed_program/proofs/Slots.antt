@@ -1,7 +1,7 @@
 -- Values of the visible variables, and keys of their types.
 use Rattle.std.proofs.Common.{◌≡◌, refl, sym, ap, subst, arith}
 use Rattle.std.proofs.Math.Nat.{not-suc-le-zero}
-use Rattle.std.specs.Prelude.{ℕ, zero, suc, ◌+◌, ◌≤◌, ◌<◌, ⊤, List, [], ◌∷◌, ◌++◌, length, map, Option, Some, None, slice_get, slice_index_or, slice_set}
+use Rattle.std.specs.Prelude.{ℕ, zero, suc, ◌<◌, ⊤, List, [], ◌∷◌, ◌++◌, length, map, Option, Some, None, slice_get, slice_index_or, slice_set}
 use Rattle.cloud_base.specs.Shaped.{IsKey, MatchTypes}
 use Rattle.cloud_base.specs.declared.key.Key.{Key}
 use Rattle.cloud_base.specs.declared.key.Key.TheVariants as key
@@ -10,7 +10,6 @@ use Rattle.cloud_base.specs.declared.schema.KeyType.TheVariants as type
 use Rattle.cloud_base.specs.declared.update.Answer.{Answer}
 use Rattle.cloud_base.specs.declared.update.Answer.TheVariants as answer
 use Rattle.typed_program.specs.declared.expression.Kind.{Kind}
-use Rattle.typed_program.specs.declared.expression.Kind.TheVariants.{Int, Text, Truth, Id}
 use Rattle.typed_program.specs.Kinds.{key_kind}
 use Rattle.typed_program.specs.Shapes.{IsOf}
 use Rattle.typed_program.specs.Trace.{key_of, value_of}

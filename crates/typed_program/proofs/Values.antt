@@ -1,9 +1,8 @@
 -- Operators and updates keep kinds.
-use Rattle.std.proofs.Common.{◌≡◌, refl, sym, ap, subst, arith, lit<, lit≤, T}
-use Rattle.std.proofs.lemmas.Int.{SFits-int_wrap}
+use Rattle.std.proofs.Common.{sym, subst, arith, lit<, lit≤, T}
 use Rattle.std.proofs.lemmas.List.{length-take}
 use Rattle.std.proofs.lemmas.List.Elements.{All-nil, All-append, All-take}
-use Rattle.std.specs.Prelude.{ℕ, ◌≤◌, ⊤, ℤ, pos, Bool, true, false, List, [], ◌∷◌, ◌++◌, length, All, IsTrue, FitsSigned}
+use Rattle.std.specs.Prelude.{ℕ, pos, false, List, [], ◌++◌, IsTrue, FitsSigned}
 use Rattle.std.specs.Int.{w64}
 use Rattle.cloud_base.specs.Values.{IsText, IsPrintable}
 use Rattle.cloud_base.specs.Texts.{cat_text}

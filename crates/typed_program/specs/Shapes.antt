@@ -4,8 +4,7 @@ use Rattle.std.specs.Int.{w64}
 use Rattle.cloud_base.specs.Values.{Id, IsText}
 use Rattle.cloud_base.specs.Log.{created}
 use Rattle.cloud_base.specs.Events.{Outcome, ended, asks, updates_of}
-use Rattle.cloud_base.specs.Shaped.{IsId, IsShapedQuery, IsShapedAnswer, IsShapedEvent, Fit}
-use Rattle.cloud_base.specs.declared.end.End.{End}
+use Rattle.cloud_base.specs.Shaped.{IsId, IsShapedQuery, IsShapedAnswer, IsShapedEvent}
 use Rattle.cloud_base.specs.declared.end.End.TheVariants.{Done, Spent, Trap}
 use Rattle.cloud_base.specs.declared.schema.Schema.{Schema}
 use Rattle.cloud_base.specs.declared.update.Answer.{Answer}

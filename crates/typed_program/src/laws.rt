@@ -1,11 +1,18 @@
 // What every body keeps.
-ghost use Rattle.std.specs.Prelude.{◌≡◌, ℕ, List, ◌++◌};
+ghost use Rattle.std.specs.Prelude.{◌≡◌, ◌<◌, ℕ, List, ◌++◌, All};
+ghost use Rattle.cloud_base.specs.Values.{most_clients};
+ghost use Rattle.cloud_base.specs.Events.{Outcome, updates_of};
+ghost use Rattle.cloud_base.specs.Shaped.{IsSchema, Fit};
+ghost use Rattle.cloud_base.specs.declared.schema.Schema.{Schema};
 ghost use Rattle.cloud_base.specs.declared.update.Answer.{Answer};
+ghost use Rattle.cloud_base.specs.declared.update.Event.{Event};
 ghost use Rattle.typed_program.specs.declared.expression.Expression.{Expression};
 ghost use Rattle.typed_program.specs.declared.statement.Statement.{Statement};
 ghost use Rattle.typed_program.specs.declared.statement.Statement.TheVariants.{While};
 ghost use Rattle.typed_program.specs.Does.{World};
+ghost use Rattle.typed_program.specs.Kinds.{IsBody};
 ghost use Rattle.typed_program.specs.Laws.{Grows, Extends, InOrder, begins_anew};
+ghost use Rattle.typed_program.specs.Shapes.{IsAnswered, IsShapedTrace};
 ghost use Rattle.typed_program.specs.Trace.{value, does, trace};
 
 /// Expressions and statements only add events.
@@ -26,4 +33,15 @@ pub fn answers_extend()
 pub fn loops_begin_anew()
     ensures { (line : ℕ) (a : Expression) (block : List Statement) (w : World) →
         does (While line a block) w ≡ begins_anew line a block w }
+{}
+
+/// Where its queries are answered in shape, a well-kinded body does only what is of the schema's shape,
+/// and what it does is fit.
+pub fn bodies_are_shaped()
+    ensures shaped { (schema : Schema) (client : ℕ) (body : List Statement) (answers : List Answer) →
+        IsSchema schema → client < most_clients → IsBody schema body →
+        All (IsAnswered schema) (trace client body answers).0 →
+        IsShapedTrace schema client (trace client body answers) }
+    ensures fit { (schema : Schema) (client : ℕ) (trace : List Event × Outcome) →
+        IsShapedTrace schema client trace → Fit schema (updates_of trace.0) }
 {}
