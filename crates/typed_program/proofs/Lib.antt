@@ -1,3 +1,4 @@
+pub mod Bounds
 pub mod Equations
 mod Examples
 pub mod Fits

@@ -31,6 +31,8 @@ use Rattle.typed_program.specs.Does.{World, Run, goes, ends, Does, done, each, �
 use Rattle.typed_program.specs.Kinds as kinds
 use Rattle.typed_program.specs.Kinds.{HasKind, HaveKinds, IsStatement, IsBlock, IsBody, IsLine, key_kind, cell_kind, kind_of_value, fits_cell, result_kind}
 use Rattle.typed_program.specs.Laws.{events_of}
+use Rattle.typed_program.specs.Programs.{IsProgram}
+use Rattle.typed_program.specs.declared.program.Parts.{Parts}
 use Rattle.typed_program.specs.Shapes.{IsOf, IsAnswered, IsShapedTrace}
 use Rattle.typed_program.specs.Trace.{value, key_of, value_of, id_of, ids_of, tuples_of, truth_of, change_of, loop, for_ids, store_keys, for_tuples, does, does_body, start, come_out, trace}
 use Rattle.typed_program.proofs.Equations as eq
@@ -43,7 +45,7 @@ keeps_same : {schema : Schema} {c : Setting schema} {A : Type 0} {P : World → 
 keeps_same {c = c} {P = P} {Q = Q} e k = subst (λ x. Keeps c P x Q) (sym e) k
 
 -- what is there of the schema
-all_at : {A : Type 0} (P : A → Type 0) (xs : List A) (n : ℕ) (x : A) → All P xs → slice_get xs n ≡ Some x → P x
+pub all_at : {A : Type 0} (P : A → Type 0) (xs : List A) (n : ℕ) (x : A) → All P xs → slice_get xs n ≡ Some x → P x
 all_at {A = A} P [] n x h e = absurd (subst IsThere (sym e) tt)
   where
     IsThere : Option A → Type 0
@@ -277,3 +279,10 @@ trace_shaped schema client body answers sane below kinded h = come_shaped schema
 
     at_start : Stands c [] 0 (start client answers)
     at_start = record { client_is = refl; slots = refl; values = tt; events = All-nil (IsShapedEvent schema); serials = lit≤ tt; creations = refl }
+
+-- a client of a program
+pub program_shaped : (p : Parts) (client : ℕ) (body : List Statement) (answers : List Answer) → IsProgram p → slice_get p.bodies client ≡ Some body
+    → All (IsAnswered p.schema) (trace client body answers).0 → IsShapedTrace p.schema client (trace client body answers)
+program_shaped p client body answers is there h =
+    let below : client < 8 = omega (arith, slice_get_within p.bodies client body there, is.as_many_bodies, is.few_clients) in
+    trace_shaped p.schema client body answers is.schema below (all_at (IsBody p.schema) p.bodies client body is.bodies there) h

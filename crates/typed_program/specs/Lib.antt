@@ -4,3 +4,4 @@ pub mod Programs
 pub mod Trace
 pub mod Laws
 pub mod Shapes
+pub mod Widths

@@ -1,5 +1,5 @@
 // What every body keeps.
-ghost use Rattle.std.specs.Prelude.{◌≡◌, ◌<◌, ℕ, List, ◌++◌, All};
+ghost use Rattle.std.specs.Prelude.{◌≡◌, ◌≤◌, ◌<◌, ℕ, List, ◌++◌, All, Some, length, slice_get};
 ghost use Rattle.cloud_base.specs.Values.{most_clients};
 ghost use Rattle.cloud_base.specs.Events.{Outcome, updates_of};
 ghost use Rattle.cloud_base.specs.Shaped.{IsSchema, Fit};
@@ -11,9 +11,12 @@ ghost use Rattle.typed_program.specs.declared.statement.Statement.{Statement};
 ghost use Rattle.typed_program.specs.declared.statement.Statement.TheVariants.{While};
 ghost use Rattle.typed_program.specs.Does.{World};
 ghost use Rattle.typed_program.specs.Kinds.{IsBody};
+ghost use Rattle.typed_program.specs.declared.program.Parts.{Parts};
 ghost use Rattle.typed_program.specs.Laws.{Grows, Extends, InOrder, begins_anew};
+ghost use Rattle.typed_program.specs.Programs.{IsProgram};
 ghost use Rattle.typed_program.specs.Shapes.{IsAnswered, IsShapedTrace};
 ghost use Rattle.typed_program.specs.Trace.{value, does, trace};
+ghost use Rattle.typed_program.specs.Widths.{most_events};
 
 /// Expressions and statements only add events.
 pub fn events_grow()
@@ -44,4 +47,14 @@ pub fn bodies_are_shaped()
         IsShapedTrace schema client (trace client body answers) }
     ensures fit { (schema : Schema) (client : ℕ) (trace : List Event × Outcome) →
         IsShapedTrace schema client trace → Fit schema (updates_of trace.0) }
+    ensures program { (p : Parts) (client : ℕ) (body : List Statement) (answers : List Answer) →
+        IsProgram p → slice_get p.bodies client ≡ Some body →
+        All (IsAnswered p.schema) (trace client body answers).0 →
+        IsShapedTrace p.schema client (trace client body answers) }
+{}
+
+/// A body has at most so many events, whatever the answers.
+pub fn events_are_bounded()
+    ensures { (client : ℕ) (body : List Statement) (answers : List Answer) →
+        length (trace client body answers).0 ≤ most_events body }
 {}
