@@ -1,11 +1,12 @@
 // What every body keeps.
-ghost use Rattle.std.specs.Prelude.{◌≡◌, ◌≤◌, ◌<◌, ℕ, List, ◌++◌, All, Some, length, slice_get};
+ghost use Rattle.std.specs.Prelude.{◌≡◌, ◌≤◌, ◌<◌, ℕ, List, [], ◌∷◌, ◌++◌, All, Some, length, slice_get};
 ghost use Rattle.cloud_base.specs.Values.{most_clients};
-ghost use Rattle.cloud_base.specs.Events.{Outcome, updates_of};
-ghost use Rattle.cloud_base.specs.Shaped.{IsSchema, Fit};
+ghost use Rattle.cloud_base.specs.Events.{Outcome, asks, answers_in, updates_of};
+ghost use Rattle.cloud_base.specs.Shaped.{IsSchema, IsShapedAnswer, Fit};
 ghost use Rattle.cloud_base.specs.declared.schema.Schema.{Schema};
 ghost use Rattle.cloud_base.specs.declared.update.Answer.{Answer};
 ghost use Rattle.cloud_base.specs.declared.update.Event.{Event};
+ghost use Rattle.cloud_base.specs.declared.update.Query.{Query};
 ghost use Rattle.typed_program.specs.declared.expression.Expression.{Expression};
 ghost use Rattle.typed_program.specs.declared.statement.Statement.{Statement};
 ghost use Rattle.typed_program.specs.declared.statement.Statement.TheVariants.{While};
@@ -24,12 +25,20 @@ pub fn events_grow()
     ensures statements { (statement : Statement) → Grows (does statement) }
 {}
 
-/// More answers only extend a trace, and each query takes the next one.
+/// More answers only extend a trace, and each query takes the next one. So where a query waits, the
+/// next answer is the one that it gets, and no other query of the longer trace is answered.
 pub fn answers_extend()
     ensures extends { (client : ℕ) (body : List Statement) (answers more : List Answer) →
         Extends (trace client body answers) (trace client body (answers ++ more)) more }
     ensures in_order { (client : ℕ) (body : List Statement) (answers : List Answer) →
         InOrder (trace client body answers) answers }
+    ensures asked { (client : ℕ) (body : List Statement) (answers : List Answer) (query : Query)
+        (a : Answer) → (trace client body answers).1 ≡ asks query →
+        answers_in (trace client body (answers ++ a ∷ [])).0 ≡ answers ++ a ∷ [] }
+    ensures answered { (schema : Schema) (client : ℕ) (body : List Statement) (answers : List Answer)
+        (query : Query) (a : Answer) → (trace client body answers).1 ≡ asks query →
+        All (IsAnswered schema) (trace client body answers).0 → IsShapedAnswer schema query a →
+        All (IsAnswered schema) (trace client body (answers ++ a ∷ [])).0 }
 {}
 
 /// A loop begins, tests, and where the test is true does its block and then the loop anew.
