@@ -3,6 +3,7 @@ pub mod Equations
 mod Examples
 pub mod Fits
 pub mod Keeps
+pub mod KindLaws
 pub mod Next
 pub mod Orderly
 pub mod Shaped

@@ -83,7 +83,7 @@ is_creation schema id number entity values sane there h is = (
       (are_keys schema entity.keys values (all_at (λ (x : Entity). AreKeyTypes schema x.keys) schema.entities number entity sane.entity_keys there) h),
 )
 
-type_at : (schema : Schema) (number : ℕ) (property : Property) → property_at schema number ≡ Some property → cell_type schema number ≡ property.cell
+pub type_at : (schema : Schema) (number : ℕ) (property : Property) → property_at schema number ≡ Some property → cell_type schema number ≡ property.cell
 type_at schema number property there = ap (λ o. option_map_or (λ (p : Property). p.cell) o cell.Int) there
 
 of_kind : (kind : ValueKind) (v : Answer) → IsOfKind kind v → IsOf (kind_of_value kind) v

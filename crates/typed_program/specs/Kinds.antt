@@ -3,7 +3,7 @@ use Rattle.std.specs.Prelude.{◌≡◌, ℕ, ◌+◌, ◌≤◌, ◌<◌, ◌^�
 use Rattle.std.specs.Int.{w64}
 use Rattle.cloud_base.specs.Values.{IsText}
 use Rattle.cloud_base.specs.PlainCell.{ValueKind, Number, Words, value_kind}
-use Rattle.cloud_base.specs.Shaped.{property_at, entity_at}
+use Rattle.cloud_base.specs.Shaped.{property_at, entity_at, cell_type}
 use Rattle.cloud_base.specs.declared.schema.CellType.{CellType}
 use Rattle.cloud_base.specs.declared.schema.KeyType.{KeyType}
 use Rattle.cloud_base.specs.declared.schema.KeyType.TheVariants as type
@@ -15,6 +15,8 @@ use Rattle.typed_program.specs.declared.expression.Kind.TheVariants.{Int, Text, 
 use Rattle.typed_program.specs.declared.expression.Operator.{Operator}
 use Rattle.typed_program.specs.declared.expression.Operator.TheVariants as op
 use Rattle.typed_program.specs.declared.expression.Expression.{Expression}
+use Rattle.typed_program.specs.declared.expression.Expression.TheFolds.{fold-Expression}
+use Rattle.typed_program.specs.declared.expression.Expression.TheOpen.{Expression-F}
 use Rattle.typed_program.specs.declared.expression.Expression.TheVariants as e
 use Rattle.typed_program.specs.declared.statement.Operation.{Operation}
 use Rattle.typed_program.specs.declared.statement.Operation.TheVariants as operation
@@ -69,6 +71,24 @@ fits_cell operation.Set Number Int = true
 fits_cell operation.Set Words Text = true
 fits_cell operation.SetIfEmpty Words Text = true
 fits_cell operation cell kind = false
+
+-- from the kinds of the parts of an expression; a property that isn't there counts as one of integers
+abbrev pub kind_step : Schema → Expression-F Kind → Kind
+kind_step schema (Expression-F.Int n) = Int
+kind_step schema (Expression-F.Text bytes) = Text
+kind_step schema (Expression-F.Truth b) = Truth
+kind_step schema (Expression-F.Slot n kind) = kind
+kind_step schema (Expression-F.Get number keys) = cell_kind (cell_type schema number)
+kind_step schema (Expression-F.Alive n entity) = Truth
+kind_step schema (Expression-F.Minus a) = Int
+kind_step schema (Expression-F.Not a) = Truth
+kind_step schema (Expression-F.Binary operator a b) = result_kind operator
+kind_step schema (Expression-F.And a b) = Truth
+kind_step schema (Expression-F.Or a b) = Truth
+
+-- the kind of an expression, where it has one
+abbrev pub kind_of : Schema → Expression → Kind
+kind_of schema = fold-Expression Kind (kind_step schema)
 
 -- an expression has a kind, where the visible variables have these kinds, slot by slot
 mutual

@@ -30,8 +30,9 @@ pub enum Operator {
 
 /// An expression, with slots and numbers in place of names.
 ///
-/// `Slot` has its kind, and `Alive` the slot of an id and its entity. `Get` has a property's number
-/// and the keys of a cell; of a property of a variable, the one key is the variable's slot.
+/// `Slot` has its kind, and `Alive` the slot of an id and its entity. `Get` has the number of a
+/// property and the keys of a cell; of a property of a variable, the one key is the variable's
+/// slot.
 #[derive(Drop)]
 pub enum Expression {
     Int(i64),

@@ -9,7 +9,8 @@ mod statement;
 
 pub use expression::{Expression, Kind, Operator};
 pub use laws::{
-    answers_extend, bodies_are_shaped, events_are_bounded, events_grow, loops_begin_anew,
+    answers_extend, bodies_are_shaped, events_are_bounded, events_grow, kinds_are_told,
+    loops_begin_anew,
 };
 pub use program::{Parts, Program};
 pub use statement::{Body, Operation, Statement};

@@ -12,9 +12,10 @@ pub enum Operation {
 
 /// A statement, its line first.
 ///
-/// `Store` is a declaration where its slot isn't visible yet, and else an assignment. `Create` has a
-/// slot, an entity and keys, `Update` a property and keys, `Delete` a slot and its entity, `ForAll` a
-/// slot and an entity, and `ForEntries` a property and the first of as many slots as it has keys.
+/// `Store` is a declaration where its slot isn't visible yet, and else an assignment. `Create` has
+/// a slot, an entity and keys, `Update` a property and keys, `Delete` a slot and its entity,
+/// `ForAll` a slot and an entity, and `ForEntries` the first of as many slots as its property has
+/// keys.
 #[derive(Drop)]
 pub enum Statement {
     Store(u32, u8, Expression),
