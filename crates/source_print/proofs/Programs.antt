@@ -1,5 +1,5 @@
 -- The tokens of a canonical text spell its program.
-use Rattle.std.proofs.Common.{◌≡◌, ℕ, List, [], ◌∷◌, ◌++◌, map, refl, ap, sym, ◌∙◌, append_assoc, append-nil, Option, Some}
+use Rattle.std.proofs.Common.{◌≡◌, ℕ, ◌+◌, List, [], ◌∷◌, ◌++◌, map, refl, ap, sym, ◌∙◌, append_assoc, append-nil, Option, Some, arith}
 use Rattle.std.specs.Prelude.{codes, decimal}
 use Rattle.std.specs.List.{AllByRecursion, flat_map}
 use Rattle.cloud_base.specs.declared.schema.CellType.{CellType}
@@ -12,6 +12,8 @@ use Rattle.source_tokens.specs.declared.terminal.Terminal.TheVariants as t
 use Rattle.source_tokens.specs.declared.token.Token.{Token}
 use Rattle.source_tokens.specs.declared.token.Token.TheVariants.{Name, Number, Fixed}
 use Rattle.source_tokens.proofs.Lexing.{Lexes, Ends, lexes_name, lexes_number, lexes_word, lexes_nothing}
+use Rattle.source_tree.specs.Heights.{body_height}
+use Rattle.source_tree.specs.Limits.{IsLow}
 use Rattle.source_tree.specs.Programs as p
 use Rattle.source_tree.specs.Programs.{SpellsCell, SpellsKeyType, SpellsKey, SpellsKeyList, SpellsEntityKeys, SpellsProperty, SpellsPropertyList, SpellsProperties, SpellsDeclaration, SpellsDeclarations, SpellsFate, SpellsItem, SpellsItems, SpellsClient, SpellsClients, SpellsProgram}
 use Rattle.source_tree.specs.declared.program.KeyType.{KeyType}
@@ -28,6 +30,8 @@ use Rattle.source_print.specs.Canonical.{cell_type_text, key_type_text, key_text
 use Rattle.source_print.specs.Expressions.{following}
 use Rattle.source_print.specs.Statements.{block_text}
 use Rattle.source_print.proofs.Bodies.{BlockPrints, block_prints_of, no_margin}
+use Rattle.source_print.proofs.Nesting.{Nests, nothing, raised, plainly, joined, opened}
+use Rattle.source_print.proofs.Outlines.{declarations_close, items_close}
 use Rattle.source_print.proofs.Pieces as piece
 use Rattle.source_print.proofs.Printed.{parts, by_same}
 
@@ -316,12 +320,14 @@ items_print _ _ (p.more_items x xs u v h k) all = let both = parts IsToken u v a
 record ClientPrints (x : Client) : Type 0 where
   tokens : List Token
   spelled : SpellsClient x tokens
+  nests : Nests (body_height x.body + 1) tokens
   lexes : (rest : List ℕ) (ts : List Token) → Lexes rest ts → Lexes (client_text x ++ rest) (tokens ++ ts)
 
 client_by : (n : List ℕ) (body : List Statement) → IsIdentifier n → BlockPrints body → ClientPrints (record { name = n; body = body })
 client_by n body first b = record {
   tokens = Fixed t.Client ∷ Name n ∷ b.tokens;
   spelled = p.client n body b.tokens b.spelled;
+  nests = plainly _ (Fixed t.Client) _ (λ n. refl) (plainly _ (Name n) _ (λ n. refl) b.nests);
   lexes = λ rest ts h.
       by_same _ _ _ _
       (piece.lexes_client _ _ (lexes_name n (codes " " ++ (block_text [] body ++ (codes "\n" ++ rest))) (b.tokens ++ ts) first refl (piece.lexes_blank _ _ (b.lexes [] (codes "\n" ++ rest) ts no_margin (piece.lexes_feed rest ts h)))))
@@ -335,28 +341,34 @@ client_prints _ _ (p.client n body u h) all = client_by n body all.1.0 (block_pr
 record ClientsPrint (xs : List Client) (plan : Option (List Item)) : Type 0 where
   tokens : List Token
   spelled : SpellsClients xs plan tokens
+  nests : AllByRecursion IsLow xs → Nests 33 tokens
   lexes : (rest : List ℕ) (ts : List Token) → Lexes rest ts → Lexes (flat_map client_text xs ++ (schedule_text plan ++ rest)) (tokens ++ ts)
 
 schedule_by : (xs : List Item) → ItemsPrint xs → ClientsPrint [] (Some xs)
 schedule_by xs q = record {
   tokens = Fixed t.Schedule ∷ Fixed t.OpenBrace ∷ q.tokens;
   spelled = p.schedule xs q.tokens q.spelled;
+  nests = λ low. plainly 33 (Fixed t.Schedule) _ (λ n. refl) (raised 1 33 _ (omega arith) (opened 0 (Fixed t.OpenBrace) q.tokens (λ n. refl) (items_close xs q.tokens q.spelled)));
   lexes = λ rest ts h.
       by_same _ _ _ _ (piece.lexes_schedule _ _ (q.lexes rest ts h))
       (append_assoc (codes "schedule {\n" ++ flat_map item_text xs) (codes "}\n") rest ∙ append_assoc (codes "schedule {\n") (flat_map item_text xs) (codes "}\n" ++ rest)) refl;
 }
 
+low_nests : (x : Client) (u : List Token) → IsLow x → Nests (body_height x.body + 1) u → Nests 33 u
+low_nests x u low h = raised (body_height x.body + 1) 33 u (omega arith) h
+
 more_client : (x : Client) (xs : List Client) (plan : Option (List Item)) → ClientPrints x → ClientsPrint xs plan → ClientsPrint (x ∷ xs) plan
 more_client x xs plan r q = record {
   tokens = r.tokens ++ q.tokens;
   spelled = p.more_clients x xs plan r.tokens q.tokens r.spelled q.spelled;
+  nests = λ low. joined 33 r.tokens q.tokens (low_nests x r.tokens low.0 r.nests) (q.nests low.1);
   lexes = λ rest ts h.
       by_same _ _ _ _ (r.lexes (flat_map client_text xs ++ (schedule_text plan ++ rest)) (q.tokens ++ ts) (q.lexes rest ts h))
       (append_assoc (client_text x) (flat_map client_text xs) (schedule_text plan ++ rest)) (append_assoc r.tokens q.tokens ts);
 }
 
 clients_print : (xs : List Client) (plan : Option (List Item)) (u : List Token) → SpellsClients xs plan u → AllByRecursion IsToken u → ClientsPrint xs plan
-clients_print _ _ _ p.no_clients all = record { tokens = []; spelled = p.no_clients; lexes = λ rest ts h. h }
+clients_print _ _ _ p.no_clients all = record { tokens = []; spelled = p.no_clients; nests = λ low. nothing 33; lexes = λ rest ts h. h }
 clients_print _ _ _ (p.schedule xs u h) all = schedule_by xs (items_print xs u h all.1.1)
 clients_print _ _ _ (p.more_clients x xs plan u v h k) all = let both = parts IsToken u v all in more_client x xs plan (client_prints x u h both.0) (clients_print xs plan v k both.1)
 
@@ -364,6 +376,7 @@ clients_print _ _ _ (p.more_clients x xs plan u v h k) all = let both = parts Is
 pub record ProgramPrints (x : Program) : Type 0 where
   pub tokens : List Token
   pub spelled : SpellsProgram x tokens
+  pub nests : AllByRecursion IsLow x.clients → Nests 33 tokens
   pub lexes : Lexes (canonical x) tokens
 
 program_flat : (a b d e g h : List ℕ) → a ++ b ++ d ++ (e ++ g) ++ h ≡ a ++ (b ++ (d ++ (e ++ (g ++ (h ++ [])))))
@@ -374,6 +387,10 @@ program_by : (ds : List Declaration) (x : Client) (xs : List Client) (plan : Opt
 program_by ds x xs plan d r q = record {
   tokens = Fixed t.Schema ∷ Fixed t.OpenBrace ∷ (d.tokens ++ (r.tokens ++ q.tokens));
   spelled = p.program ds x xs plan d.tokens r.tokens q.tokens d.spelled r.spelled q.spelled;
+  nests = λ low.
+      plainly 33 (Fixed t.Schema) _ (λ n. refl)
+      (joined 33 (Fixed t.OpenBrace ∷ d.tokens) (r.tokens ++ q.tokens) (raised 2 33 _ (omega arith) (opened 1 (Fixed t.OpenBrace) d.tokens (λ n. refl) (declarations_close ds d.tokens d.spelled)))
+      (joined 33 r.tokens q.tokens (low_nests x r.tokens low.0 r.nests) (q.nests low.1)));
   lexes =
       by_same _ _ _ _
       (piece.lexes_schema _ _ (d.lexes (client_text x ++ (flat_map client_text xs ++ (schedule_text plan ++ []))) (r.tokens ++ (q.tokens ++ []))
