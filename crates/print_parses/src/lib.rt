@@ -1,0 +1,6 @@
+// Canonical texts and parsing.
+#![tactic(auto)]
+
+mod laws;
+
+pub use laws::print_parses;
