@@ -1,7 +1,7 @@
 pub mod Does
 pub mod Kinds
-pub mod Programs
-pub mod Trace
 pub mod Laws
+pub mod Programs
 pub mod Shapes
+pub mod Trace
 pub mod Widths

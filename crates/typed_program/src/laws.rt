@@ -44,7 +44,8 @@ pub fn answers_extend()
         (a : Answer) → (trace client body answers).1 ≡ asks query →
         answers_in (trace client body (answers ++ a ∷ [])).0 ≡ answers ++ a ∷ [] }
     ensures answered { (schema : Schema) (client : ℕ) (body : List Statement)
-        (answers : List Answer) (query : Query) (a : Answer) → (trace client body answers).1 ≡ asks query →
+        (answers : List Answer) (query : Query) (a : Answer) →
+        (trace client body answers).1 ≡ asks query →
         All (IsAnswered schema) (trace client body answers).0 → IsShapedAnswer schema query a →
         All (IsAnswered schema) (trace client body (answers ++ a ∷ [])).0 }
 {}
