@@ -207,10 +207,12 @@ mod tests {
         two: Front<E>,
     ) -> (Writer<E>, Front<E>)
         requires room { length writer.list + 2 < 2 ^ 64 }
-        requires chronicle { (one.chronicle ≡ writer.chronicle) × (two.chronicle ≡ writer.chronicle) }
+        requires chronicle { (one.chronicle ≡ writer.chronicle)
+            × (two.chronicle ≡ writer.chronicle) }
         ensures list { result.0.list ≡ writer.list ++ entry.now ∷ entry.now ∷ [] }
         ensures front { result.1.list ≡ longer one.list two.list }
-        ensures chronicle { (result.0.chronicle ≡ writer.chronicle) × (result.1.chronicle ≡ writer.chronicle) }
+        ensures chronicle { (result.0.chronicle ≡ writer.chronicle)
+            × (result.1.chronicle ≡ writer.chronicle) }
     {
         thread::join(
             rt,

@@ -20,7 +20,8 @@ fn same_keys(one: &Keys, other: &Keys) -> bool
 }
 
 fn int_after(value: i64, change: &CellChange) -> i64
-    ensures { (changes : List CellChange) → value ≡ plain_int changes → result ≡ plain_int (changes ++ change.now ∷ []) }
+    ensures { (changes : List CellChange) → value ≡ plain_int changes
+        → result ≡ plain_int (changes ++ change.now ∷ []) }
 {
     plain_steps();
     match change {
@@ -31,7 +32,8 @@ fn int_after(value: i64, change: &CellChange) -> i64
 }
 
 fn text_after(value: Text, change: &CellChange) -> Text
-    ensures { (changes : List CellChange) → value ≡ plain_text changes → result ≡ plain_text (changes ++ change.now ∷ []) }
+    ensures { (changes : List CellChange) → value ≡ plain_text changes
+        → result ≡ plain_text (changes ++ change.now ∷ []) }
 {
     plain_steps();
     match change {

@@ -16,7 +16,8 @@ fn same_id(one: Uid, other: Uid) -> bool
 }
 
 fn deletes(update: &Update, id: Uid) -> bool
-    ensures { (log : List Update) → is_deleted id (update.now ∷ log) ≡ (result || is_deleted id log) }
+    ensures { (log : List Update)
+        → is_deleted id (update.now ∷ log) ≡ (result || is_deleted id log) }
 {
     match update {
         Update::Delete(other) => same_id(*other, id),
@@ -37,7 +38,8 @@ fn is_deleted(log: &[Update], id: Uid) -> bool
 
 /// The entity and the keys of the id's first creation.
 fn creation(log: &[Update], id: Uid) -> Option<(u16, Keys)>
-    ensures { MatchOption result (creation id log.now ≡ None) (λ made. creation id log.now ≡ Some (record { entity = made.0; keys = made.1 })) }
+    ensures { MatchOption result (creation id log.now ≡ None)
+        (λ made. creation id log.now ≡ Some (record { entity = made.0; keys = made.1 })) }
 {
     for update in log {
         match update {
@@ -95,7 +97,8 @@ pub fn is_dead(log: &[Update], id: Uid) -> bool
 }
 
 fn is_dead_key(log: &[Update], key: &Key) -> bool
-    ensures { (keys : List Key) → has_dead log.now (key.now ∷ keys) ≡ (result || has_dead log.now keys) }
+    ensures { (keys : List Key)
+        → has_dead log.now (key.now ∷ keys) ≡ (result || has_dead log.now keys) }
 {
     match key {
         Key::Ref(id) => is_dead(log, *id),

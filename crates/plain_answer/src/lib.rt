@@ -15,8 +15,9 @@ use std::alloc::Global;
 
 /// What the log answers to the query.
 ///
-/// The log need not be fit. Of two creations of an id the first counts, a change of another type than
-/// its cell's leaves the value, and a property that the schema doesn't have counts as one of integers.
+/// The log need not be fit. Of two creations of an id the first counts, a change of another type
+/// than its cell's leaves the value, and a property that the schema doesn't have counts as one of
+/// integers.
 pub fn answer(
     alloc: Global,
     schema: &Schema,

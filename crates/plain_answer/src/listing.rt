@@ -18,7 +18,8 @@ fn put_created(
     entity: u16,
     update: &Update,
 ) -> Result<(), Memory>
-    ensures { OnOk result (ids.new.keys ≡ fold (insert_key id_order) ids.old.keys (filter (is_listed log.now entity) (created (update.now ∷ [])))) }
+    ensures { OnOk result (ids.new.keys ≡ fold (insert_key id_order) ids.old.keys
+        (filter (is_listed log.now entity) (created (update.now ∷ [])))) }
 {
     if let Update::Create(id, _, _) = update {
         if is_listed(log, entity, *id) {
@@ -56,7 +57,8 @@ fn put_touched(
     property: u16,
     update: &Update,
 ) -> Result<(), Memory>
-    ensures { OnOk result (tuples.new.keys ≡ fold (insert_key keys_order) tuples.old.keys (filter (is_entry schema.now log.now property) (touched property (update.now ∷ [])))) }
+    ensures { OnOk result (tuples.new.keys ≡ fold (insert_key keys_order) tuples.old.keys
+        (filter (is_entry schema.now log.now property) (touched property (update.now ∷ [])))) }
 {
     if let Update::Cell(changed, keys, _) = update {
         if *changed == property && is_entry(schema, log, property, keys) {
@@ -66,8 +68,8 @@ fn put_touched(
     Ok(())
 }
 
-/// The key lists of the property's cells, no key of which is dead and whose value isn't the default,
-/// ascending.
+/// The key lists of the property's cells, no key of which is dead and whose value isn't the
+/// default, ascending.
 #[tactic(auto, unfolding(cloud_base::specs::Answer::entries))]
 pub fn entries(
     alloc: Global,
