@@ -8,8 +8,6 @@ mod program;
 mod reading;
 mod schedule;
 mod statement;
-#[cfg(test)]
-mod tests;
 mod token;
 
 pub use lines::{item_lines, one_line_an_item};
