@@ -1,0 +1,5 @@
+pub mod FateLemmas
+pub mod LinkLemmas
+pub mod ListLemmas
+pub mod RosterLemmas
+pub mod WalkLemmas

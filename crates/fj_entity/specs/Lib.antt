@@ -1,0 +1,4 @@
+pub mod Fates
+pub mod Links
+pub mod Rosters
+pub mod Walks
