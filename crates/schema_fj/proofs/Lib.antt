@@ -1,0 +1,13 @@
+pub mod CellFacts
+pub mod CellLaws
+pub mod Changes
+pub mod FateLaws
+pub mod GridJoin
+pub mod JoinLaws
+pub mod JoinOne
+pub mod SetLemmas
+pub mod StateJoin
+pub mod StateLaws
+pub mod StateSteps
+pub mod UpdateLaws
+pub mod ValueLemmas

@@ -1,0 +1,263 @@
+-- What a state stands for after a join.
+use Rattle.std.proofs.Common.{◌≡◌, refl, sym, ◌∙◌, ap, subst, Bool, true, false, List, [], ◌∷◌, ◌++◌, inl, inr, Option, Some, None}
+use Rattle.std.specs.Prelude.{Contains, All, filter_map, not, ◌||◌, is_some}
+use Rattle.std.specs.Option.{option_or}
+use Rattle.std.specs.List.{cons_option, AllByRecursion}
+use Rattle.std.specs.List.Sorted.{IsStrictlySortedBy}
+use Rattle.std.specs.Ordering.{is_eq}
+use Rattle.std.specs.declared.cmp.Ordering.TheVariants.{Less}
+use Rattle.std.proofs.lemmas.Bool.{false≢true}
+use Rattle.std.proofs.lemmas.List.{append_assoc, append-nil}
+use Rattle.std.proofs.lemmas.List.Elements.{All-contains, All-from_recursion, All-weaker, All-contains_itself}
+use Rattle.std.proofs.lemmas.Map.Keys.{sorted_head, sorted_tail}
+use Rattle.cloud_base.specs.Values.{Id}
+use Rattle.cloud_base.specs.Order.{id_order}
+use Rattle.cloud_base.specs.Alike.{IsPart}
+use Rattle.cloud_base.specs.Dead.{is_dead}
+use Rattle.cloud_base.specs.Log.{Creation, creation, is_created}
+use Rattle.cloud_base.specs.Shaped.{Fit, CreatedOnce, cell_type}
+use Rattle.cloud_base.specs.Sorted.{Lists}
+use Rattle.cloud_base.specs.declared.schema.Schema.{Schema}
+use Rattle.cloud_base.specs.declared.schema.CellType.{CellType}
+use Rattle.cloud_base.specs.declared.schema.CellType.TheVariants as cell
+use Rattle.cloud_base.specs.declared.update.CellChange.{CellChange}
+use Rattle.cloud_base.specs.declared.update.Update.{Update}
+use Rattle.cloud_base.specs.declared.update.Update.TheVariants.{Create, Delete}
+use Rattle.cloud_base.proofs.SortedLemmas.{here, there, none_in, split_member}
+use Rattle.cloud_base.proofs.LogLemmas.{creation_parts, created_member, created_contains, created_once_parts}
+use Rattle.cloud_base.proofs.DeadLemmas.{has_dead_same, created_then}
+use Rattle.fj_core.specs.declared.effect.Effect.{Effect}
+use Rattle.fj_core.specs.Changes.{ints, texts}
+use Rattle.fj_core.specs.IntCells.{int_plain, int_effect, IntStands}
+use Rattle.fj_core.specs.TextCells.{text_plain, text_effect, TextStands}
+use Rattle.fj_core.specs.declared.int_cell.IntCell.{IntCell}
+use Rattle.fj_core.specs.declared.text_cell.TextCell.{TextCell}
+use Rattle.fj_array.specs.declared.cell.Cell.{Cell}
+use Rattle.fj_array.specs.declared.effect.CellEffect.{CellEffect}
+use Rattle.fj_array.specs.Cells.{of_cell}
+use Rattle.fj_array.specs.Effects.{cell_of, effect_order}
+use Rattle.fj_array.specs.Grids.{GridStands}
+use Rattle.fj_entity.specs.declared.created.Created.{Created}
+use Rattle.fj_entity.specs.declared.fate.Fate.{Fate}
+use Rattle.fj_entity.specs.declared.fate.Fate.TheVariants.{Living, Dead}
+use Rattle.fj_entity.specs.Fates.{fate_at, created_at, found}
+use Rattle.fj_entity.specs.Rosters.{RosterStands, IsLiving, IsNewlyDead, created_order}
+use Rattle.fj_entity.proofs.WalkLemmas.{living_made, made_living}
+use Rattle.schema_fj.specs.Held.{Held}
+use Rattle.schema_fj.specs.Joined.{JoinsAll, lives}
+use Rattle.schema_fj.specs.States.{same_type, changes_in, StateHolds}
+use Rattle.schema_fj.specs.Told.{AreNew, IsBorn, SameFates, creates, deletes}
+use Rattle.schema_fj.proofs.CellFacts.{IsLawful, ints_lawful, texts_lawful}
+use Rattle.schema_fj.proofs.Changes.{changes_in-append}
+use Rattle.schema_fj.proofs.CellLaws.{same_changes, grid_same}
+use Rattle.schema_fj.proofs.FateLaws.{told_fates, born_same, roster_same}
+use Rattle.schema_fj.proofs.JoinOne.{join_stands}
+use Rattle.schema_fj.proofs.StateSteps.{Orders, keys_apart, lists_as}
+
+-- ---- what is told of ids
+
+living_of : (fates : List (Id × Fate)) (log : List Update) (x : Id) (c : Created) → RosterStands fates log → found fates x ≡ Some c → (c.id ≡ x) × IsLiving log c
+living_of fates log x c h e = at (fate_at fates x) refl e
+  where
+    at : (o : Option Fate) → fate_at fates x ≡ o → created_at x o ≡ Some c → (c.id ≡ x) × IsLiving log c
+    at None k f = cc
+    at (Some Dead) k f = cc
+    at (Some (Living en ks)) k f =
+        let same : record { id = x; entity = en; keys = ks } ≡ c = cc in
+        let m = living_made log x en ks (sym (h.kept x) ∙ k) in
+        subst (λ (d : Created). (d.id ≡ x) × IsLiving log d) same (refl, (m.1 ∙ ap Some (λ i. record { entity = m.3 i; keys = m.2 i }), m.4))
+
+found_of : (fates : List (Id × Fate)) (log : List Update) (c : Created) → RosterStands fates log → IsLiving log c → found fates c.id ≡ Some c
+found_of fates log c h l = ap (created_at c.id) (h.kept c.id ∙ made_living log c.id (record { entity = c.entity; keys = c.keys }) l.0 l.1)
+
+module _ (fates : List (Id × Fate)) where
+  told_only : (ids : List Id) (c : Created) → Contains (filter_map (found fates) ids) c → (x : Id) × Contains ids x × (found fates x ≡ Some c)
+  told_only [] c m = absurd (none_in c m)
+  told_only (x ∷ ids) c m = at (found fates x) refl m (told_only ids c)
+    where
+      further : (y : Id) × Contains ids y × (found fates y ≡ Some c) → (y : Id) × Contains (x ∷ ids) y × (found fates y ≡ Some c)
+      further w = (w.0, there x w.0 ids w.1, w.2)
+
+      at : (o : Option Created) → found fates x ≡ o → Contains (cons_option o (filter_map (found fates) ids)) c → (Contains (filter_map (found fates) ids) c → (y : Id) × Contains ids y × (found fates y ≡ Some c))
+          → (y : Id) × Contains (x ∷ ids) y × (found fates y ≡ Some c)
+      at None e k rest = further (rest k)
+      at (Some d) e k rest = elim (split_member d c (filter_map (found fates) ids) k) [
+        | inl same ↦ (x, here x ids, e ∙ ap Some same)
+        | inr n ↦ further (rest n)
+      ]
+
+  told_every : (ids : List Id) (x : Id) (c : Created) → Contains ids x → found fates x ≡ Some c → Contains (filter_map (found fates) ids) c
+  told_every [] x c m e = absurd (none_in x m)
+  told_every (y ∷ ids) x c m e = elim (split_member y x ids m) [
+    | inl same ↦ subst (λ o. Contains (cons_option o (filter_map (found fates) ids)) c) (sym (ap (found fates) same ∙ e)) (here c (filter_map (found fates) ids))
+    | inr n ↦ pass (found fates y) (told_every ids x c n e)
+  ]
+    where
+      pass : (o : Option Created) → Contains (filter_map (found fates) ids) c → Contains (cons_option o (filter_map (found fates) ids)) c
+      pass None k = k
+      pass (Some d) k = there d c (filter_map (found fates) ids) k
+
+  module _ (log : List Update) (stands : RosterStands fates log) where
+    above : (x : Id) (ids : List Id) (c : Created) → c.id ≡ x → AllByRecursion (λ y. id_order x y ≡ Less) ids → AllByRecursion (λ d. created_order c d ≡ Less) (filter_map (found fates) ids)
+    above x [] c is h = tt
+    above x (y ∷ ids) c is h = at (found fates y) refl (above x ids c is h.1)
+      where
+        at : (o : Option Created) → found fates y ≡ o → AllByRecursion (λ d. created_order c d ≡ Less) (filter_map (found fates) ids) → AllByRecursion (λ d. created_order c d ≡ Less) (cons_option o (filter_map (found fates) ids))
+        at None e r = r
+        at (Some d) e r = ((λ i. id_order (is i) ((living_of fates log y d stands e).0 i)) ∙ h.0, r)
+
+    told_ascends : (ids : List Id) → IsStrictlySortedBy id_order ids → IsStrictlySortedBy created_order (filter_map (found fates) ids)
+    unfolding IsStrictlySortedBy
+    told_ascends [] s = tt
+    told_ascends (x ∷ ids) s = at (found fates x) refl (told_ascends ids (sorted_tail id_order x ids s))
+      where
+        at : (o : Option Created) → found fates x ≡ o → IsStrictlySortedBy created_order (filter_map (found fates) ids) → IsStrictlySortedBy created_order (cons_option o (filter_map (found fates) ids))
+        at None e r = r
+        at (Some d) e r = (above x ids d (living_of fates log x d stands e).0 (sorted_head id_order x ids s), r)
+
+-- what a state tells of its creations
+pub told_born : (fates : List (Id × Fate)) (before after : List Update) (born : List Id) (list : List Created) → RosterStands fates (before ++ after) → list ≡ filter_map (found fates) born
+    → Lists id_order born (λ x. (is_created x after ≡ true) × (is_dead (before ++ after) x ≡ false)) → Lists created_order list (IsBorn before after)
+told_born fates before after born list stands is h = subst (λ (l : List Created). Lists created_order l (IsBorn before after)) (sym is) (record {
+  ascends = told_ascends fates (before ++ after) stands born h.ascends;
+  only = λ c m.
+      let w = told_only fates born c m in
+      let l = living_of fates (before ++ after) w.0 c stands w.2 in
+      (l.1, ap (λ x. is_created x after) l.0 ∙ (h.only w.0 w.1).0);
+  every = λ c b. told_every fates born c.id c (h.every c.id (b.1, b.0.1)) (found_of fates (before ++ after) c stands b.0);
+})
+
+-- each told creation is new when its turn comes
+pub are_new : (list : List Created) (log : List Update) → IsStrictlySortedBy created_order list → ((c : Created) → Contains list c → creation c.id log ≡ None) → AreNew list log
+are_new [] log s f = tt
+are_new (c ∷ list) log s f = (
+  f c (here c list),
+  are_new list (log ++ Create c.id c.entity c.keys ∷ []) (sorted_tail created_order c list s)
+      (λ d m. created_then log c.id c.entity c.keys d.id (ap is_eq (All-contains (λ e. created_order c e ≡ Less) list d (All-from_recursion (λ e. created_order c e ≡ Less) list (sorted_head created_order c list s)) m)) ∙ f d (there c d list m)),
+)
+
+-- ---- the join
+
+told_no_cells : {C : Type 0} (schema : Schema) (type : CellType) (of : CellChange → List C) (whole : List Update) (list : List Created) (ids : List Id) → changes_in schema type of whole (creates list ++ deletes ids) ≡ []
+told_no_cells schema type of whole [] [] = refl
+told_no_cells schema type of whole [] (id ∷ ids) = told_no_cells schema type of whole [] ids
+told_no_cells schema type of whole (c ∷ list) ids = told_no_cells schema type of whole list ids
+
+deletes_make_nothing : (ids : List Id) (x : Id) → is_created x (deletes ids) ≡ false
+deletes_make_nothing [] x = refl
+deletes_make_nothing (id ∷ ids) x = deletes_make_nothing ids x
+
+made_parts : (log more : List Update) (x : Id) → is_created x (log ++ more) ≡ (is_created x log || is_created x more)
+made_parts log more x = ap is_some (creation_parts x log more) ∙ at (creation x log)
+  where
+    at : (o : Option Creation) → is_some (option_or o (creation x more)) ≡ (is_some o || is_some (creation x more))
+    at None = refl
+    at (Some c) = refl
+
+or_false : (b : Bool) → (b || false) ≡ b
+or_false true = refl
+or_false false = refl
+
+-- a grid that stands for what is told of ids stands for the whole without the child's changes
+retold : {S C V : Type 0} {plain : List C → V} {effect_of : List C → Option Effect} {stands : S → List C → List C → Type 0} (laws : IsLawful plain effect_of stands) (orders : Orders)
+    (schema : Schema) (type : CellType) (of : CellChange → List C) (now whole base delta : List Update) (list : List Created) (ids : List Id) (grid : List (Cell × S)) → ((x : Id) → is_dead now x ≡ is_dead whole x)
+    → GridStands plain effect_of stands grid (changes_in schema type of now base) (changes_in schema type of now (delta ++ (creates list ++ deletes ids)))
+    → GridStands plain effect_of stands grid (changes_in schema type of whole base) (changes_in schema type of whole delta)
+retold {C = C} {effect_of = effect_of} laws orders schema type of now whole base delta list ids grid dead h =
+    grid_same laws grid (changes_in schema type of now base) (changes_in schema type of now (delta ++ (creates list ++ deletes ids))) (changes_in schema type of whole base) (changes_in schema type of whole delta)
+    (λ x. same x base)
+    (λ x. ap effect_of (ap (of_cell x) (changes_in-append schema type of now delta (creates list ++ deletes ids) ∙ ap (λ l. changes_in schema type of now delta ++ l) (told_no_cells schema type of now list ids) ∙ append-nil (changes_in schema type of now delta)) ∙ same x delta)) h
+  where
+    same : (x : Cell) (log : List Update) → of_cell x (changes_in schema type of now log) ≡ of_cell x (changes_in schema type of whole log)
+    same x log = same_changes orders.parts keys_apart schema type of now whole x.property x.keys log
+        (ap (λ b. not (same_type (cell_type schema x.property) type) || b) (has_dead_same now whole x.keys (λ id m. dead id)))
+
+pub new_to_joiner : (joiner before after : List Update) (list : List Created) → CreatedOnce (joiner ++ after) → Lists created_order list (IsBorn before after) → (c : Created) → Contains list c → creation c.id joiner ≡ None
+new_to_joiner joiner before after list once lists c m = at (creation c.id joiner) refl (creation c.id after) refl (lists.only c m).1
+  where
+    at : (o : Option Creation) → creation c.id joiner ≡ o → (p : Option Creation) → creation c.id after ≡ p → is_some p ≡ true → creation c.id joiner ≡ None
+    at None e p k t = e
+    at (Some d) e None k t = absurd (false≢true t)
+    at (Some d) e (Some f) k t = absurd ((created_once_parts joiner after once).2 c.id (created_contains c.id d.entity d.keys joiner (created_member c.id joiner d e)) (created_contains c.id f.entity f.keys after (created_member c.id after f k)))
+
+pub joined_holds : (schema : Schema) (s : Held) (base delta before after : List Update) (orders : Orders) (list : List Created) (ids : List Id) (nums words : List CellEffect) (numbers : List (Cell × IntCell)) (texts' : List (Cell × TextCell))
+    → IsPart before (base ++ delta) → Fit schema (base ++ (delta ++ after)) → Lists created_order list (IsBorn before after) → Lists id_order ids (IsNewlyDead before (before ++ after))
+    → StateHolds schema s base (delta ++ (creates list ++ deletes ids))
+    → Lists effect_order nums (λ it. int_effect (of_cell (cell_of it) (changes_in schema cell.Int ints (before ++ after) after)) ≡ Some it.effect)
+    → Lists effect_order words (λ it. text_effect (of_cell (cell_of it) (changes_in schema cell.Text texts (before ++ after) after)) ≡ Some it.effect)
+    → JoinsAll int_plain int_effect IntStands (lives s.fates) nums s.numbers numbers → JoinsAll text_plain text_effect TextStands (lives s.fates) words s.texts texts'
+    → StateHolds schema (record { types = s.types; numbers = numbers; texts = texts'; fates = s.fates; born = s.born; died = s.died }) base (delta ++ after)
+joined_holds schema s base delta before after orders list ids nums words numbers texts' part fit borns dies h ln lt jn jt = record {
+  types = h.types;
+  numbers = join_stands ints_lawful orders.parts keys_apart orders.apart orders.total schema cell.Int ints base delta before after nums s.fates part fit.once ln roster s.numbers numbers jn
+      (retold ints_lawful orders schema cell.Int ints (base ++ (delta ++ (creates list ++ deletes ids))) (base ++ (delta ++ after)) base delta list ids s.numbers same.dead h.numbers);
+  texts = join_stands texts_lawful orders.parts keys_apart orders.apart orders.total schema cell.Text texts base delta before after words s.fates part fit.once lt roster s.texts texts' jt
+      (retold texts_lawful orders schema cell.Text texts (base ++ (delta ++ (creates list ++ deletes ids))) (base ++ (delta ++ after)) base delta list ids s.texts same.dead h.texts);
+  roster = roster;
+  born = lists_as s.born (λ x. (is_created x (delta ++ (creates list ++ deletes ids)) ≡ true) × (is_dead (base ++ (delta ++ (creates list ++ deletes ids))) x ≡ false))
+      (λ x. (is_created x (delta ++ after) ≡ true) × (is_dead (base ++ (delta ++ after)) x ≡ false))
+      (λ x b. let live = sym (same.dead x) ∙ b.1 in (sym (made x live) ∙ b.0, live)) (λ x b. (made x b.1 ∙ b.0, same.dead x ∙ b.1)) h.born;
+  died = lists_as s.died (λ x. (is_dead (base ++ (delta ++ (creates list ++ deletes ids))) x ≡ true) × (is_dead base x ≡ false))
+      (λ x. (is_dead (base ++ (delta ++ after)) x ≡ true) × (is_dead base x ≡ false))
+      (λ x d. (sym (same.dead x) ∙ d.0, d.1)) (λ x d. (same.dead x ∙ d.0, d.1)) h.died;
+}
+  where
+    once : CreatedOnce (base ++ delta ++ after)
+    once = subst CreatedOnce (sym (append_assoc base delta after)) fit.once
+
+    same : SameFates (base ++ (delta ++ (creates list ++ deletes ids))) (base ++ (delta ++ after))
+    same = subst (λ l. SameFates l (base ++ (delta ++ after))) (append_assoc base delta (creates list ++ deletes ids))
+        (subst (SameFates (base ++ delta ++ (creates list ++ deletes ids))) (append_assoc base delta after) (told_fates (base ++ delta) before after list ids part once borns dies))
+
+    roster : RosterStands s.fates (base ++ (delta ++ after))
+    roster = roster_same s.fates (base ++ (delta ++ (creates list ++ deletes ids))) (base ++ (delta ++ after)) same h.roster
+
+    made : (x : Id) → is_dead (base ++ (delta ++ after)) x ≡ false → is_created x (delta ++ (creates list ++ deletes ids)) ≡ is_created x (delta ++ after)
+    made x live =
+        made_parts delta (creates list ++ deletes ids) x
+        ∙ ap (λ b. is_created x delta || b) (made_parts (creates list) (deletes ids) x ∙ ap (λ b. is_created x (creates list) || b) (deletes_make_nothing ids x) ∙ or_false (is_created x (creates list))
+        ∙ born_same (base ++ delta) before after list ids part once borns dies x (ap (λ l. is_dead l x) (append_assoc base delta after) ∙ live))
+        ∙ sym (made_parts delta after x)
+
+-- ---- the loops
+
+creates-push : (list : List Created) (c : Created) → creates (list ++ c ∷ []) ≡ creates list ++ Create c.id c.entity c.keys ∷ []
+creates-push [] c = refl
+creates-push (d ∷ list) c = ap (λ l. Create d.id d.entity d.keys ∷ l) (creates-push list c)
+
+deletes-push : (ids : List Id) (id : Id) → deletes (ids ++ id ∷ []) ≡ deletes ids ++ Delete id ∷ []
+deletes-push [] id = refl
+deletes-push (x ∷ ids) id = ap (λ l. Delete x ∷ l) (deletes-push ids id)
+
+-- the first of the created ids are done, and the others are new
+pub record SoFar (schema : Schema) (s : Held) (base delta : List Update) (done rest : List Created) : Type 0 where
+  pub holds : StateHolds schema s base (delta ++ creates done)
+  pub new : AreNew rest (base ++ (delta ++ creates done))
+
+pub so_far_start : (schema : Schema) (s : Held) (base delta : List Update) (list : List Created) → StateHolds schema s base delta → AreNew list (base ++ delta) → SoFar schema s base delta [] list
+so_far_start schema s base delta list h new = record {
+  holds = subst (StateHolds schema s base) (sym (append-nil delta)) h;
+  new = subst (λ l. AreNew list (base ++ l)) (sym (append-nil delta)) new;
+}
+
+pub so_far_more : (schema : Schema) (old s : Held) (base delta : List Update) (done done' rest rest' : List Created) (c : Created) → done' ≡ done ++ c ∷ [] → rest ≡ c ∷ rest'
+    → ((base' delta' : List Update) → StateHolds schema old base' delta' → creation c.id (base' ++ delta') ≡ None → StateHolds schema s base' (delta' ++ Create c.id c.entity c.keys ∷ []))
+    → SoFar schema old base delta done rest → SoFar schema s base delta done' rest'
+so_far_more schema old s base delta done done' rest rest' c d r step h =
+    let new : AreNew (c ∷ rest') (base ++ (delta ++ creates done)) = subst (λ l. AreNew l (base ++ (delta ++ creates done))) r h.new in
+    let same : delta ++ creates done ++ Create c.id c.entity c.keys ∷ [] ≡ delta ++ creates done' =
+    append_assoc delta (creates done) (Create c.id c.entity c.keys ∷ []) ∙ ap (λ l. delta ++ l) (sym (creates-push done c) ∙ ap creates (sym d)) in
+    record {
+      holds = subst (StateHolds schema s base) same (step base (delta ++ creates done) h.holds new.0);
+      new = subst (AreNew rest') (append_assoc base (delta ++ creates done) (Create c.id c.entity c.keys ∷ []) ∙ ap (λ l. base ++ l) same) new.1;
+    }
+
+pub deleted_more : (schema : Schema) (s : Held) (base delta : List Update) (ids ids' : List Id) (id : Id) → ids' ≡ ids ++ id ∷ [] → StateHolds schema s base (delta ++ deletes ids ++ Delete id ∷ []) → StateHolds schema s base (delta ++ deletes ids')
+deleted_more schema s base delta ids ids' id e h =
+    subst (StateHolds schema s base) (append_assoc delta (deletes ids) (Delete id ∷ []) ∙ ap (λ l. delta ++ l) (sym (deletes-push ids id) ∙ ap deletes (sym e))) h
+
+-- ---- effects of a grid are of its type
+
+pub all_own : (Own : Effect → Type 0) (effect_at : CellEffect → Option Effect) (list : List CellEffect) → ((it : CellEffect) (effect : Effect) → effect_at it ≡ Some effect → Own effect)
+    → Lists effect_order list (λ it. effect_at it ≡ Some it.effect) → All (λ it. Own it.effect) list
+all_own Own effect_at list own lists = All-weaker (Contains list) (λ it. Own it.effect) (λ it m. own it it.effect (lists.only it m)) list (All-contains_itself list)

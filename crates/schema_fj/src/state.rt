@@ -1,0 +1,378 @@
+// The data of a replica.
+ghost use Rattle.std.specs.Prelude.{◌≡◌, List, [], ◌∷◌, ◌++◌, None, true, false, not, filter, filter_map, map, IfOk, OnOk, OnErr};
+ghost use Rattle.cloud_base.specs.Values.{Id};
+ghost use Rattle.cloud_base.specs.Alike.{IsPart};
+ghost use Rattle.cloud_base.specs.Answer.{answer, entries};
+ghost use Rattle.cloud_base.specs.Dead.{is_alive, is_dead, has_dead};
+ghost use Rattle.cloud_base.specs.Log.{creation};
+ghost use Rattle.cloud_base.specs.Shaped.{Fit, IsShapedQuery, cell_type};
+ghost use Rattle.cloud_base.specs.declared.schema.CellType.TheVariants as CellType;
+ghost use Rattle.cloud_base.specs.declared.schema.Schema.{Schema};
+ghost use Rattle.cloud_base.specs.declared.update.Answer.TheVariants as Answer;
+ghost use Rattle.cloud_base.specs.declared.update.Query.TheVariants as Query;
+ghost use Rattle.cloud_base.specs.declared.update.Update.{Update};
+ghost use Rattle.cloud_base.specs.declared.update.Update.TheVariants as Change;
+ghost use Rattle.fj_core.specs.IntCells.{int_plain, int_effect, IntStands};
+ghost use Rattle.fj_core.specs.TextCells.{text_plain, text_effect, TextStands};
+ghost use Rattle.fj_entity.specs.Fates.{fate_at, found, is_gone};
+ghost use Rattle.schema_fj.specs.Purged.{Purges};
+ghost use Rattle.schema_fj.specs.Sets.{type_at};
+ghost use Rattle.schema_fj.specs.States.{StateHolds, StateStands};
+ghost use Rattle.schema_fj.specs.Told.{AreNew, creates, deletes};
+
+use crate::cells::{
+    change_cell, join_all, number_change, number_effects, purge_all, text_change, text_effects,
+};
+use crate::ids::{add, copy_set, keep_living, take_back, with_all};
+use cloud_base::{
+    Answer, CellChange, CellType, Keys, Memory, Query, Schema, Sequence, Text, TupleList, Uid,
+    Update,
+};
+use fj_array::{Grid, cell_orders};
+use fj_core::{IntCell, TextCell};
+use fj_entity::{Created, Roster};
+use std::alloc::{AllocError, Global};
+use std::collections::BTreeSet;
+use std::marker::Model;
+
+/// The data of a replica: the cells of all properties, the ids that live and the dead ones.
+///
+/// It stands for a log after a log: what was done before it was forked, and what was done since.
+/// Of cells with a dead key none is kept. After a refusal for memory a state is as it was.
+#[derive(Drop)]
+pub struct State {
+    types: Sequence<CellType>,
+    numbers: Grid<IntCell>,
+    texts: Grid<TextCell>,
+    roster: Roster,
+    born: BTreeSet<Uid>,
+    died: BTreeSet<Uid>,
+    alloc: Global,
+}
+
+impl Model for State {
+    ghost use Rattle.schema_fj.specs.Held.{Held};
+
+    ghost Value = { Held };
+
+    ghost view = { λ s. record { types = s.types; numbers = s.numbers; texts = s.texts; fates = s.roster; born = s.born.keys; died = s.died.keys } };
+}
+
+fn types_of(alloc: Global, schema: &Schema) -> Result<Vec<CellType>, Memory>
+    ensures { IfOk result (λ types. types.items ≡ map (λ p. p.cell) schema.now.properties) }
+{
+    let types = schema
+        .properties
+        .as_slice()
+        .iter()
+        .map(|property| property.cell)
+        .collect(alloc)?;
+    Ok(types)
+}
+
+impl State {
+    /// The state of no updates.
+    pub fn fresh(alloc: Global, schema: &Schema) -> Result<State, Memory>
+        ensures { IfOk result (λ state. StateStands schema.now state [] []) }
+    {
+        Ok(State {
+            types: Sequence::from_vec(types_of(alloc, schema)?),
+            numbers: Grid::new(alloc),
+            texts: Grid::new(alloc),
+            roster: Roster::new(alloc),
+            born: BTreeSet::new(alloc),
+            died: BTreeSet::new(alloc),
+            alloc,
+        })
+    }
+
+    fn type_of(&self, property: u16) -> CellType
+        ensures { result ≡ type_at self.now.types property }
+    {
+        let types = self.types.as_slice();
+        types
+            .get(property as usize)
+            .copied()
+            .unwrap_or(CellType::Int)
+    }
+
+    /// Whether an id was created and isn't dead.
+    pub fn alive(&self, id: Uid) -> bool
+        ensures { (schema : Schema) (base delta : List Update) →
+            StateStands schema self.now base delta → result ≡ is_alive (base ++ delta) id }
+    {
+        self.roster.alive(id)
+    }
+
+    /// The value of a cell of integers.
+    pub fn get_int(&self, property: u16, keys: &Keys) -> i64
+        ensures { (schema : Schema) (base delta : List Update) →
+            StateStands schema self.now base delta → cell_type schema property ≡ CellType.Int →
+            answer schema (base ++ delta) (Query.Get property keys.now) ≡ Answer.Int result }
+    {
+        cell_orders();
+        self.numbers.ask(property, keys)
+    }
+
+    /// The value of a cell of texts.
+    pub fn get_text(&self, property: u16, keys: &Keys) -> Text
+        ensures { (schema : Schema) (base delta : List Update) →
+            StateStands schema self.now base delta → cell_type schema property ≡ CellType.Text →
+            answer schema (base ++ delta) (Query.Get property keys.now) ≡ Answer.Text result }
+    {
+        cell_orders();
+        self.texts.ask(property, keys)
+    }
+
+    fn change(&mut self, property: u16, keys: &Keys, change: &CellChange) -> Result<(), Memory>
+        ensures ok { OnOk result ((schema : Schema) (base delta : List Update) →
+            StateHolds schema self.old base delta → StateHolds schema self.new base
+            (delta ++ Change.Cell property keys.now change.now ∷ [])) }
+        ensures err { OnErr result (self.new ≡ self.old) }
+    {
+        cell_orders();
+        if self.roster.has_dead(keys) {
+            return Ok(());
+        }
+        match self.type_of(property) {
+            CellType::Int => {
+                let change = number_change(change);
+                change_cell(&mut self.numbers, property, keys, &change)
+            }
+            CellType::Text => {
+                let change = text_change(change);
+                change_cell(&mut self.texts, property, keys, &change)
+            }
+        }
+    }
+
+    // Takes out what the newly dead ids take with them. It takes no memory.
+    fn bury(&mut self, died: BTreeSet<Uid>, doomed: &[Uid])
+        ensures types { self.new.types ≡ self.old.types }
+        ensures fates { self.new.fates ≡ self.old.fates }
+        ensures born { self.new.born
+            ≡ filter (λ id. not (is_gone (fate_at self.old.fates id))) self.old.born }
+        ensures died { self.new.died ≡ died.keys }
+        ensures numbers { Purges int_plain int_effect IntStands doomed.now
+            self.old.numbers self.new.numbers }
+        ensures texts { Purges text_plain text_effect TextStands doomed.now
+            self.old.texts self.new.texts }
+    {
+        keep_living(&mut self.born, &self.roster);
+        purge_all(&mut self.numbers, doomed);
+        purge_all(&mut self.texts, doomed);
+        self.died = died;
+    }
+
+    fn delete(&mut self, id: Uid) -> Result<(), Memory>
+        ensures ok { OnOk result ((schema : Schema) (base delta : List Update) →
+            StateHolds schema self.old base delta →
+            StateHolds schema self.new base (delta ++ Change.Delete id ∷ [])) }
+        ensures err { OnErr result (self.new ≡ self.old) }
+    {
+        cell_orders();
+        let doomed = self.roster.doomed(id)?;
+        let died = with_all(&self.died, doomed.as_slice())?;
+        self.roster.delete(id)?;
+        self.bury(died, doomed.as_slice());
+        Ok(())
+    }
+
+    // A creation with a dead key.
+    fn create_dead(&mut self, id: Uid, entity: u16, keys: &Keys) -> Result<(), Memory>
+        ensures ok { OnOk result ((schema : Schema) (base delta : List Update) →
+            StateHolds schema self.old base delta → creation id (base ++ delta) ≡ None →
+            has_dead (base ++ delta) keys.now ≡ true →
+            StateHolds schema self.new base (delta ++ Change.Create id entity keys.now ∷ [])) }
+        ensures err { OnErr result (self.new ≡ self.old) }
+    {
+        cell_orders();
+        let killed = self.roster.doomed(id)?;
+        let died = with_all(&self.died, killed.as_slice())?;
+        self.roster.create(id, entity, keys)?;
+        self.bury(died, killed.as_slice());
+        Ok(())
+    }
+
+    // A creation that kills nothing.
+    fn create_living(&mut self, id: Uid, entity: u16, keys: &Keys) -> Result<(), Memory>
+        ensures ok { OnOk result ((schema : Schema) (base delta : List Update) →
+            StateHolds schema self.old base delta → creation id (base ++ delta) ≡ None →
+            has_dead (base ++ delta) keys.now ≡ false → is_dead (base ++ delta) id ≡ false →
+            StateHolds schema self.new base (delta ++ Change.Create id entity keys.now ∷ [])) }
+        ensures err { OnErr result (self.new ≡ self.old) }
+    {
+        cell_orders();
+        let added = add(&mut self.born, id)?;
+        match self.roster.create(id, entity, keys) {
+            Ok(_died) => Ok(()),
+            Err(memory) => {
+                take_back(&mut self.born, id, added);
+                Err(memory)
+            }
+        }
+    }
+
+    fn create(&mut self, id: Uid, entity: u16, keys: &Keys) -> Result<(), Memory>
+        ensures ok { OnOk result ((schema : Schema) (base delta : List Update) →
+            StateHolds schema self.old base delta → creation id (base ++ delta) ≡ None →
+            StateHolds schema self.new base (delta ++ Change.Create id entity keys.now ∷ [])) }
+        ensures err { OnErr result (self.new ≡ self.old) }
+    {
+        cell_orders();
+        if self.roster.has_dead(keys) {
+            self.create_dead(id, entity, keys)
+        } else if self.roster.dead(id) {
+            Ok(())
+        } else {
+            self.create_living(id, entity, keys)
+        }
+    }
+
+    /// One update more. Cells with a key that became dead are dropped.
+    pub fn update(&mut self, update: &Update) -> Result<(), Memory>
+        ensures ok { OnOk result ((schema : Schema) (base delta : List Update) →
+            StateStands schema self.old base delta →
+            Fit schema (base ++ (delta ++ update.now ∷ [])) →
+            StateStands schema self.new base (delta ++ update.now ∷ [])) }
+        ensures err { OnErr result (self.new ≡ self.old) }
+    {
+        match update {
+            Update::Cell(property, keys, change) => self.change(*property, keys, change),
+            Update::Create(id, entity, keys) => self.create(*id, *entity, keys),
+            Update::Delete(id) => self.delete(*id),
+        }
+    }
+
+    fn get(&self, property: u16, keys: &Keys) -> Answer
+        ensures { (schema : Schema) (base delta : List Update) →
+            StateStands schema self.now base delta →
+            result ≡ answer schema (base ++ delta) (Query.Get property keys.now) }
+    {
+        match self.type_of(property) {
+            CellType::Int => Answer::Int(self.get_int(property, keys)),
+            CellType::Text => Answer::Text(self.get_text(property, keys)),
+        }
+    }
+
+    fn entries(&self, property: u16) -> Result<TupleList, Memory>
+        ensures { IfOk result (λ list. (schema : Schema) (base delta : List Update) →
+            StateStands schema self.now base delta →
+            list ≡ entries schema (base ++ delta) property) }
+    {
+        cell_orders();
+        match self.type_of(property) {
+            CellType::Int => self.numbers.entries(property),
+            CellType::Text => self.texts.entries(property),
+        }
+    }
+
+    /// The answer of the log that it stands for. `Entries` may be asked of any property.
+    pub fn ask(&self, query: &Query) -> Result<Answer, Memory>
+        ensures { IfOk result (λ given. (schema : Schema) (base delta : List Update) →
+            StateStands schema self.now base delta → IsShapedQuery schema query.now →
+            given ≡ answer schema (base ++ delta) query.now) }
+    {
+        Ok(match query {
+            Query::Get(property, keys) => self.get(*property, keys),
+            Query::All(entity) => Answer::Ids(self.roster.all(*entity)?),
+            Query::Entries(property) => Answer::Tuples(self.entries(*property)?),
+            Query::Alive(id) => Answer::Truth(self.alive(*id)),
+        })
+    }
+
+    /// A state that begins where this one is.
+    pub fn fork(&self) -> Result<State, Memory>
+        ensures { IfOk result (λ child. (schema : Schema) (base delta : List Update) →
+            StateStands schema self.now base delta →
+            StateStands schema child (base ++ delta) []) }
+    {
+        Ok(State {
+            types: self.types.copy(self.alloc)?,
+            numbers: self.numbers.fork()?,
+            texts: self.texts.fork()?,
+            roster: self.roster.fork()?,
+            born: BTreeSet::new(self.alloc),
+            died: BTreeSet::new(self.alloc),
+            alloc: self.alloc,
+        })
+    }
+
+    fn copied(&self) -> Result<State, Memory>
+        ensures { IfOk result (λ copy. (schema : Schema) (base delta : List Update) →
+            StateHolds schema self.now base delta → StateHolds schema copy base delta) }
+    {
+        Ok(State {
+            types: self.types.copy(self.alloc)?,
+            numbers: self.numbers.copied()?,
+            texts: self.texts.copied()?,
+            roster: self.roster.fork()?,
+            born: copy_set(&self.born)?,
+            died: copy_set(&self.died)?,
+            alloc: self.alloc,
+        })
+    }
+
+    // What was created since the fork and lives, by id.
+    fn told_created(&self) -> Result<Vec<Created>, AllocError>
+        ensures { IfOk result (λ list.
+            list.items ≡ filter_map (found self.now.fates) self.now.born) }
+    {
+        self.born
+            .iter()
+            .filter_map(|id| self.roster.find(*id))
+            .collect(self.alloc)
+    }
+
+    // What died since the fork, by id.
+    fn told_dead(&self) -> Result<Vec<Uid>, AllocError>
+        ensures { IfOk result (λ list. list.items ≡ self.now.died) }
+    {
+        self.died.iter().copied().collect(self.alloc)
+    }
+
+    fn create_all(&mut self, list: &[Created]) -> Result<(), Memory>
+        ensures { OnOk result ((schema : Schema) (base delta : List Update) →
+            StateHolds schema self.old base delta → AreNew list.now (base ++ delta) →
+            StateHolds schema self.new base (delta ++ creates list.now)) }
+    {
+        for created in list {
+            self.create(created.id, created.entity, &created.keys)?;
+        }
+        Ok(())
+    }
+
+    fn delete_all(&mut self, ids: &[Uid]) -> Result<(), Memory>
+        ensures { OnOk result ((schema : Schema) (base delta : List Update) →
+            StateHolds schema self.old base delta →
+            StateHolds schema self.new base (delta ++ deletes ids.now)) }
+    {
+        for id in ids {
+            self.delete(*id)?;
+        }
+        Ok(())
+    }
+
+    /// Does what the child did since it was forked. What the child began with is to be in the log
+    /// that this state stands for, and that log followed by what the child did is to be fit.
+    pub fn join(&mut self, child: &State) -> Result<(), Memory>
+        ensures ok { OnOk result ((schema : Schema) (base delta before after : List Update) →
+            StateStands schema self.old base delta → StateStands schema child.now before after →
+            IsPart before (base ++ delta) → Fit schema (base ++ (delta ++ after)) →
+            StateStands schema self.new base (delta ++ after)) }
+        ensures err { OnErr result (self.new ≡ self.old) }
+    {
+        cell_orders();
+        let created = child.told_created()?;
+        let dead = child.told_dead()?;
+        let numbers = number_effects(self.alloc, &child.numbers)?;
+        let texts = text_effects(self.alloc, &child.texts)?;
+        let mut next = self.copied()?;
+        next.create_all(created.as_slice())?;
+        next.delete_all(dead.as_slice())?;
+        join_all(&mut next.numbers, numbers.as_slice(), &next.roster)?;
+        join_all(&mut next.texts, texts.as_slice(), &next.roster)?;
+        *self = next;
+        Ok(())
+    }
+}
