@@ -1,0 +1,4 @@
+pub mod Fronts
+pub mod Clients
+pub mod Above
+pub mod Worked

@@ -1,0 +1,4 @@
+pub mod Batches
+pub mod Sound
+pub mod Right
+pub mod Flushed
