@@ -1,0 +1,2 @@
+pub mod SeenAt
+pub mod Steps

@@ -1,0 +1,47 @@
+// Laws of the steps of a record.
+ghost use Rattle.std.specs.Prelude.{◌≡◌, ℕ, List, IsTrue, Bool};
+ghost use Rattle.cloud_base.specs.declared.batch.Batch.{Batch};
+ghost use Rattle.cloud_base.specs.declared.batch.Tail.{Tail};
+ghost use Rattle.cloud_base.specs.declared.end.End.{End};
+ghost use Rattle.cloud_base.specs.declared.update.Answer.{Answer};
+ghost use Rattle.cloud_base.specs.declared.update.Query.{Query};
+ghost use Rattle.cloud_base.specs.declared.update.Update.{Update};
+ghost use Rattle.revision_diagram.specs.Diagram.{EachStep};
+ghost use Rattle.revision_diagram.specs.Lawful.{Lawful};
+ghost use Rattle.revision_diagram.specs.Meeting.{AtMarks, Placed, below_server};
+ghost use Rattle.revision_diagram.specs.Once.{Once};
+ghost use Rattle.revision_diagram.specs.Story.{LineLaw, events};
+ghost use Rattle.revision_diagram.specs.Right as diagram;
+ghost use Rattle.batch_history.specs.Batches.{did};
+ghost use Rattle.batch_history.specs.Right.{AnsweredRight, RightRecord};
+ghost use Rattle.batch_history.specs.Sound.{SoundRecord};
+ghost use Rattle.record_diagram.specs.Steps.{steps_of};
+ghost use Rattle.record_diagram.specs.SeenAt.{AnswerAt, Passes};
+
+/// The steps of a sound record are lawful and join each update once. Its clients meet the server at
+/// their marks and keep in line, and the steps tell what each of them did. The steps of a record
+/// that is answered right are answered right, and whatever a test finds of each answer and the log
+/// that its client had seen, it finds of each Ask and the log of its revision.
+pub fn steps_of_records()
+    ensures lawful { (batches : List Batch) (tails : List Tail) (ends : List End)
+        → SoundRecord batches tails ends → Lawful (steps_of batches tails) }
+    ensures once { (batches : List Batch) (tails : List Tail) (ends : List End)
+        → SoundRecord batches tails ends → Once (steps_of batches tails) }
+    ensures placed { (batches : List Batch) (tails : List Tail) (ends : List End)
+        → SoundRecord batches tails ends → Placed below_server (steps_of batches tails) }
+    ensures at_marks { (batches : List Batch) (tails : List Tail) (ends : List End)
+        → SoundRecord batches tails ends → AtMarks below_server (steps_of batches tails) }
+    ensures line { (batches : List Batch) (tails : List Tail) (ends : List End)
+        → SoundRecord batches tails ends → (c : ℕ) → LineLaw (steps_of batches tails) c }
+    ensures told { (batches : List Batch) (tails : List Tail) (ends : List End)
+        → SoundRecord batches tails ends
+        → (c : ℕ) → events (steps_of batches tails) c ≡ did batches tails c }
+    ensures right { (answers : List Update → Query → Answer)
+        (batches : List Batch) (tails : List Tail) (ends : List End)
+        → SoundRecord batches tails ends → AnsweredRight answers batches tails
+        → diagram.AnsweredRight answers (steps_of batches tails) }
+    ensures seen { (test : List Update → Query → Answer → Bool)
+        (batches : List Batch) (tails : List Tail) (ends : List End)
+        → SoundRecord batches tails ends → RightRecord (Passes test) batches tails
+        → EachStep (AnswerAt (Passes test)) (steps_of batches tails) }
+{}
