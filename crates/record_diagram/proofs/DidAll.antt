@@ -1,5 +1,5 @@
 -- What is told of a client is what it did.
-use Rattle.std.proofs.Common.{arith, ◌≡◌, ℕ, zero, suc, ◌+◌, ◌<◌, ◌≤◌, Bool, true, false, cond, List, [], ◌∷◌, ◌++◌, length, refl, sym, ap, ◌∙◌, Option, Some, None, inl, inr, append-nil}
+use Rattle.std.proofs.Common.{arith, ◌≡◌, ℕ, zero, suc, ◌+◌, ◌<◌, ◌≤◌, Bool, true, false, cond, List, [], ◌∷◌, ◌++◌, length, refl, sym, ap, subst, ◌∙◌, Option, Some, None, inl, inr, append-nil}
 use Rattle.std.specs.Prelude.{◌==◌, map, slice_get}
 use Rattle.std.specs.List.{AllByRecursion}
 use Rattle.std.proofs.lemmas.Bool.{cases_eq, eq-eqb, ne_eqb}
@@ -7,7 +7,14 @@ use Rattle.std.proofs.lemmas.List.{append_assoc}
 use Rattle.cloud_base.specs.declared.batch.Batch.{Batch}
 use Rattle.cloud_base.specs.declared.batch.Stretch.{Stretch}
 use Rattle.cloud_base.specs.declared.batch.Tail.{Tail}
+use Rattle.cloud_base.specs.declared.end.End.{End}
+use Rattle.cloud_base.specs.declared.update.Answer.{Answer}
 use Rattle.cloud_base.specs.declared.update.Event.{Event}
+use Rattle.cloud_base.specs.Events.{Outcome, ended, answers_in}
+use Rattle.revision_diagram.specs.Story.{events, ProgramLaw}
+use Rattle.batch_history.specs.Flushed.{Traced}
+use Rattle.record_diagram.specs.Steps.{steps_of}
+use Rattle.record_diagram.proofs.ToldAll.{events_of_record}
 use Rattle.batch_history.specs.Batches.{of_client, unjoined, stretch_of, events_in, all_events, did_by, did}
 use Rattle.batch_history.proofs.Clients.{of_client-here, of_client-else}
 use Rattle.record_diagram.proofs.Did.{did_in, tail_events, did_last, told}
@@ -84,3 +91,9 @@ pub told_did : (batches : List Batch) (tails : List Tail) → FittingRecord batc
 told_did batches tails fits x =
     let here : x ≡ 0 + x = omega arith in
     ap (λ (l : List Event). did_in x batches ++ l) (last_told batches x 0 x tails here) ∙ by_tail batches tails x (slice_get tails x) refl fits
+
+-- a client's program did what the steps tell
+pub program_of : (trace : ℕ → List Answer → List Event × Outcome) (batches : List Batch) (tails : List Tail) (ends : List End) → FittingRecord batches tails → Traced trace batches tails ends → (c : ℕ) (end : End) → slice_get ends c ≡ Some end → ProgramLaw (trace c) (ended end) (steps_of batches tails) c
+program_of trace batches tails ends fits traced c end e =
+    let same : events (steps_of batches tails) c ≡ did batches tails c = events_of_record batches tails fits c ∙ told_did batches tails fits c in
+    subst (λ (l : List Event). trace c (answers_in l) ≡ (l, ended end)) (sym same) (traced c end e)

@@ -22,3 +22,4 @@ pub mod Told
 pub mod ToldAll
 pub mod Sounds
 pub mod DidAll
+pub mod Owned

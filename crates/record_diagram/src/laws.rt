@@ -1,27 +1,32 @@
 // Laws of the steps of a record.
-ghost use Rattle.std.specs.Prelude.{◌≡◌, ℕ, List, IsTrue, Bool};
+ghost use Rattle.std.specs.Prelude.{◌≡◌, ℕ, List, Bool, Some, length, slice_get};
+ghost use Rattle.cloud_base.specs.Events.{Outcome, ended};
 ghost use Rattle.cloud_base.specs.declared.batch.Batch.{Batch};
 ghost use Rattle.cloud_base.specs.declared.batch.Tail.{Tail};
 ghost use Rattle.cloud_base.specs.declared.end.End.{End};
 ghost use Rattle.cloud_base.specs.declared.update.Answer.{Answer};
+ghost use Rattle.cloud_base.specs.declared.update.Event.{Event};
 ghost use Rattle.cloud_base.specs.declared.update.Query.{Query};
 ghost use Rattle.cloud_base.specs.declared.update.Update.{Update};
 ghost use Rattle.revision_diagram.specs.Diagram.{EachStep};
+ghost use Rattle.revision_diagram.specs.Headline.{AllOwned};
 ghost use Rattle.revision_diagram.specs.Lawful.{Lawful};
 ghost use Rattle.revision_diagram.specs.Meeting.{AtMarks, Placed, below_server};
 ghost use Rattle.revision_diagram.specs.Once.{Once};
-ghost use Rattle.revision_diagram.specs.Story.{LineLaw, events};
+ghost use Rattle.revision_diagram.specs.Story.{LineLaw, ProgramLaw, events};
 ghost use Rattle.revision_diagram.specs.Right as diagram;
 ghost use Rattle.batch_history.specs.Batches.{did};
+ghost use Rattle.batch_history.specs.Flushed.{Traced};
 ghost use Rattle.batch_history.specs.Right.{AnsweredRight, RightRecord};
 ghost use Rattle.batch_history.specs.Sound.{SoundRecord};
 ghost use Rattle.record_diagram.specs.Steps.{steps_of};
 ghost use Rattle.record_diagram.specs.SeenAt.{AnswerAt, Passes};
 
 /// The steps of a sound record are lawful and join each update once. Its clients meet the server at
-/// their marks and keep in line, and the steps tell what each of them did. The steps of a record
-/// that is answered right are answered right, and whatever a test finds of each answer and the log
-/// that its client had seen, it finds of each Ask and the log of its revision.
+/// their marks and keep in line, and the steps tell what each of them did, so that they tell its
+/// program where the record does. The steps of a record that is answered right are answered right,
+/// and whatever a test finds of each answer and the log that its client had seen, it finds of each
+/// Ask and the log of its revision.
 pub fn steps_of_records()
     ensures lawful { (batches : List Batch) (tails : List Tail) (ends : List End)
         → SoundRecord batches tails ends → Lawful (steps_of batches tails) }
@@ -36,6 +41,14 @@ pub fn steps_of_records()
     ensures told { (batches : List Batch) (tails : List Tail) (ends : List End)
         → SoundRecord batches tails ends
         → (c : ℕ) → events (steps_of batches tails) c ≡ did batches tails c }
+    ensures owners { (batches : List Batch) (tails : List Tail) (ends : List End)
+        → SoundRecord batches tails ends
+        → AllOwned below_server (length tails) (steps_of batches tails) }
+    ensures program { (trace : ℕ → List Answer → List Event × Outcome)
+        (batches : List Batch) (tails : List Tail) (ends : List End)
+        → SoundRecord batches tails ends → Traced trace batches tails ends
+        → (c : ℕ) (end : End) → slice_get ends c ≡ Some end
+        → ProgramLaw (trace c) (ended end) (steps_of batches tails) c }
     ensures right { (answers : List Update → Query → Answer)
         (batches : List Batch) (tails : List Tail) (ends : List End)
         → SoundRecord batches tails ends → AnsweredRight answers batches tails

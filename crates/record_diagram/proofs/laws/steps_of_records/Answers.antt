@@ -4,7 +4,8 @@ use Rattle.record_diagram.specs.SeenAt.{Passes}
 use Rattle.record_diagram.proofs.Theorem.{laws_of_record, laws_of_any, answered_right}
 use Rattle.record_diagram.proofs.ToldAll.{events_of_record}
 use Rattle.record_diagram.proofs.Sounds.{fitting_record}
-use Rattle.record_diagram.proofs.DidAll.{told_did}
+use Rattle.record_diagram.proofs.DidAll.{told_did, program_of}
+use Rattle.record_diagram.proofs.Owned.{owned_record}
 use Rattle.record_diagram.proofs.laws.steps_of_records.Goals as goal
 
 pub returns-clause-lawful : goal.returns-clause-lawful
@@ -30,3 +31,9 @@ returns-clause-right c = λ answers batches tails ends sound right. answered_rig
 
 pub returns-clause-seen : goal.returns-clause-seen
 returns-clause-seen c = λ test batches tails ends sound right. (laws_of_record (Passes test) batches tails (fitting_record batches tails ends sound) right).right
+
+pub returns-clause-owners : goal.returns-clause-owners
+returns-clause-owners c = λ batches tails ends sound. owned_record batches tails (fitting_record batches tails ends sound)
+
+pub returns-clause-program : goal.returns-clause-program
+returns-clause-program c = λ trace batches tails ends sound traced. program_of trace batches tails ends (fitting_record batches tails ends sound) traced
