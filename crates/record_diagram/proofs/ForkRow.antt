@@ -16,7 +16,7 @@ use Rattle.std.proofs.lemmas.Bool.{cases_eq, cases_lt, eq-eqb, le-ltb, lt-ltb, n
 use Rattle.std.specs.Prelude.{nat_lt, slice_get, suc, zero, ◌≢◌}
 use Rattle.record_diagram.specs.Steps as steps
 
-below_more : (n i : ℕ) → n ≢ i → nat_lt n i ≡ nat_lt n (i + 1)
+pub below_more : (n i : ℕ) → n ≢ i → nat_lt n i ≡ nat_lt n (i + 1)
 below_more n i other = elim (cases_lt n i) [
   | inl less ↦ lt-ltb n i less ∙ sym (lt-ltb n (i + 1) (omega arith))
   | inr more ↦ le-ltb n i more ∙ sym (le-ltb n (i + 1) (let l : i ≢ n = λ e. other (sym e) in omega arith))

@@ -83,7 +83,7 @@ not_waiting joined m None h = refl
 not_waiting joined m (Some n) h = ap (λ (t : Bool). cond t (Some (flat joined n)) None) (le-ltb n m (h n refl))
 
 -- behind a client's batch its next base comes later
-next_later : (is_answer : List Update → Query → Answer → Type 0) (batches : List Batch) (tails : List Tail) (joined : List Batch) (b : Batch) (rest : List Batch) (tail : Tail) → Cut is_answer batches tails joined (b ∷ rest) → slice_get tails b.client ≡ Some tail → (n : ℕ) → next_base batches (joined ++ b ∷ []) tail b.client ≡ Some n → length (joined ++ b ∷ []) ≤ n
+pub next_later : (is_answer : List Update → Query → Answer → Type 0) (batches : List Batch) (tails : List Tail) (joined : List Batch) (b : Batch) (rest : List Batch) (tail : Tail) → Cut is_answer batches tails joined (b ∷ rest) → slice_get tails b.client ≡ Some tail → (n : ℕ) → next_base batches (joined ++ b ∷ []) tail b.client ≡ Some n → length (joined ++ b ∷ []) ≤ n
 next_later is_answer batches tails joined b rest tail cut e n at =
     let c : ℕ = b.client in
     let after : List Batch = joined ++ b ∷ [] in

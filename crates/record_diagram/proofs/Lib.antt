@@ -23,3 +23,8 @@ pub mod ToldAll
 pub mod Sounds
 pub mod DidAll
 pub mod Owned
+pub mod Owing
+pub mod FlushRun
+pub mod FlushAll
+pub mod FlushEnd
+pub mod Whole

@@ -1,26 +1,26 @@
 -- The laws at one step more.
+use Rattle.revision_diagram.proofs.Apart.{joins_apart-members}
 use Rattle.cloud_base.specs.declared.update.Answer.{Answer}
 use Rattle.cloud_base.specs.declared.update.Event.{Event}
 use Rattle.cloud_base.specs.declared.update.Query.{Query}
 use Rattle.cloud_base.specs.declared.update.Update.{Update}
-use Rattle.record_diagram.proofs.Invariant.{Joinable, Laws, Marked, Remembers, RightAt, Stands, own_part, shared_part}
+use Rattle.record_diagram.proofs.Invariant.{Joinable, Laws, Marked, Remembers, RightAt, Stands}
 use Rattle.record_diagram.specs.SeenAt.{AnswerAt}
 use Rattle.record_diagram.proofs.Whose.{not_server}
 use Rattle.record_diagram.specs.Steps.{event_step}
 use Rattle.revision_diagram.proofs.KeepsOnce.{Once-step}
 use Rattle.revision_diagram.proofs.Kept.{lawful-Join, served}
-use Rattle.revision_diagram.proofs.Marks.{all_from}
 use Rattle.revision_diagram.proofs.Places.{EachStep-more}
-use Rattle.revision_diagram.specs.Diagram.{acts_on, is_of, live, owner, path}
+use Rattle.revision_diagram.specs.Diagram.{acts_on, is_of, live, owner}
 use Rattle.revision_diagram.specs.Lawful.{is_lawful}
 use Rattle.revision_diagram.specs.Meeting.{below_server, has_marked, is_at_mark, is_at_or_above, is_client, is_placed}
-use Rattle.revision_diagram.specs.Once.{joins_apart, stands_on}
+use Rattle.revision_diagram.specs.Once.{joins_apart}
 use Rattle.revision_diagram.specs.Story.{has_seen, is_in_line, story}
 use Rattle.revision_diagram.specs.declared.step.Step.{Step}
 use Rattle.revision_diagram.specs.declared.step.Step.TheVariants.{Fork, Join}
-use Rattle.std.proofs.Common.{Bool, List, None, Option, Some, [], ap, false, inl, inr, refl, subst, sym, true, ℕ, ◌++◌, ◌∙◌, ◌∷◌, ◌≡◌}
-use Rattle.std.proofs.lemmas.Bool.{and_from, cases_eq, eq-eqb, false≢true, ne_eqb, or_left, or_right}
-use Rattle.std.specs.List.{last_or, list_all}
+use Rattle.std.proofs.Common.{List, None, Option, Some, [], ap, false, inl, inr, refl, subst, sym, ℕ, ◌++◌, ◌∙◌, ◌∷◌, ◌≡◌}
+use Rattle.std.proofs.lemmas.Bool.{cases_eq, eq-eqb, ne_eqb, or_left, or_right}
+use Rattle.std.specs.List.{last_or}
 use Rattle.std.specs.Prelude.{IsTrue, not, ◌==◌, ◌≢◌}
 use Rattle.cloud_base.specs.declared.update.Event.TheVariants as event
 
@@ -74,14 +74,8 @@ fits_Fork_own is_answer front c s lives mine m = record {
   in_line = λ d. refl;
 }
 
-not_from : (b : Bool) → (b ≡ true → ⊥) → not b ≡ true
-not_from true h = absurd (h refl)
-not_from false h = refl
-
 joins_apart_of : (front : List Step) (r s : ℕ) → Joinable front r s → IsTrue (joins_apart front (Join r s))
-joins_apart_of front r s h = and_from (list_all (stands_on (path front r)) (shared_part front s)) (list_all (λ i. not (stands_on (path front r) i)) (own_part front s))
-    (all_from (stands_on (path front r)) (shared_part front s) (λ i k. h.shared i k))
-    (all_from (λ i. not (stands_on (path front r) i)) (own_part front s) (λ i k. not_from (stands_on (path front r) i) (λ there. false≢true (sym (h.fresh i k) ∙ there))))
+joins_apart_of front r s h = (joins_apart-members front r s).1 (h.shared, h.fresh)
 
 -- a join of c's s into the server, or into another one of c's
 pub fits_Join_server : (is_answer : List Update → Query → Answer → Type 0) (front : List Step) (c s : ℕ) → IsTrue (live front 0) → IsTrue (live front s) → owner front s ≡ Some c → Joinable front 0 s → Marked front c → Fits is_answer front (Join 0 s)

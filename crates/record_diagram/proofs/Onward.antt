@@ -82,7 +82,7 @@ server_left front c s (event.Say v) mine server = left front s (event.Say v) ref
 server_left front c s event.Yield mine server = left front s event.Yield refl 0 server
 server_left front c s event.Flush mine server = left front s event.Flush refl 0 server
 
-acts_event : (s : ℕ) (e : Event) → acts_on (event_step s e) ≡ Some s
+pub acts_event : (s : ℕ) (e : Event) → acts_on (event_step s e) ≡ Some s
 acts_event s (event.Do u) = refl
 acts_event s (event.Ask q a) = refl
 acts_event s (event.Say v) = refl

@@ -109,12 +109,12 @@ tells_batches is_answer batches tails joined (b ∷ rest) cut front d h x =
     (tells_forks batches after (length joined + 1) tails 0 (front ++ (two d).0) (two d).1 x))
     (tells_batches is_answer batches tails after rest (cut_on is_answer batches tails joined b rest cut) (front ++ (whole d).0) (whole d).1 (leads_one is_answer batches tails joined b rest cut front d h) x)
 
-never_pulls : (is_first : Bool) (base : Option ℕ) → base ≡ None → not_opening is_first base ≡ true → ⊥
+pub never_pulls : (is_first : Bool) (base : Option ℕ) → base ≡ None → not_opening is_first base ≡ true → ⊥
 never_pulls true base e k = false≢true k
 never_pulls false base e k = false≢true (sym (ap (not_opening false) e) ∙ k)
 
 -- the client of a last stretch
-owned_last : (is_answer : List Update → Query → Answer → Type 0) (front : List Step) (d : Drawing) (log : List Update) (status : ℕ → Status) (batches : List Batch) (c : ℕ) (tail : Tail) (own : List Batch) (base : Option ℕ) → of_client c batches ≡ own → tail.now.base ≡ base → FittingTail batches c tail → unjoined (of_client c batches) tail.sent ≡ [] → Drawn is_answer front d log status → status c ≡ status_by batches (length batches + 1) own base → Owned front d c (not_opening (is_zero (length own)) base)
+pub owned_last : (is_answer : List Update → Query → Answer → Type 0) (front : List Step) (d : Drawing) (log : List Update) (status : ℕ → Status) (batches : List Batch) (c : ℕ) (tail : Tail) (own : List Batch) (base : Option ℕ) → of_client c batches ≡ own → tail.now.base ≡ base → FittingTail batches c tail → unjoined (of_client c batches) tail.sent ≡ [] → Drawn is_answer front d log status → status c ≡ status_by batches (length batches + 1) own base → Owned front d c (not_opening (is_zero (length own)) base)
 owned_last is_answer front d log status batches c tail [] None owns based sound none_open h at = record {
   stands_owned = elim (option_cases tail.sent) [
     | inl none ↦ absurd ((sound.based based).0 none)

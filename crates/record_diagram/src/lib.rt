@@ -3,4 +3,4 @@
 
 mod laws;
 
-pub use laws::steps_of_records;
+pub use laws::{records_are_diagrams, steps_of_records};

@@ -5,6 +5,7 @@ use Rattle.record_diagram.proofs.Theorem.{laws_of_record, laws_of_any, answered_
 use Rattle.record_diagram.proofs.ToldAll.{events_of_record}
 use Rattle.record_diagram.proofs.Sounds.{fitting_record}
 use Rattle.record_diagram.proofs.DidAll.{told_did, program_of}
+use Rattle.record_diagram.proofs.FlushEnd.{flush_law_of_record}
 use Rattle.record_diagram.proofs.Owned.{owned_record}
 use Rattle.record_diagram.proofs.laws.steps_of_records.Goals as goal
 
@@ -37,3 +38,6 @@ returns-clause-owners c = λ batches tails ends sound. owned_record batches tail
 
 pub returns-clause-program : goal.returns-clause-program
 returns-clause-program c = λ trace batches tails ends sound traced. program_of trace batches tails ends (fitting_record batches tails ends sound) traced
+
+pub returns-clause-flushed : goal.returns-clause-flushed
+returns-clause-flushed c = λ batches tails ends sound flushed. flush_law_of_record batches tails (fitting_record batches tails ends sound) flushed
