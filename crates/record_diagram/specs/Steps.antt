@@ -154,6 +154,23 @@ module _ where
       ∷ step.Join 5 4 ∷ step.Ask 5 (Get 0 []) (Int (pos 3)) ∷ step.Say 5 (Int (pos 3)) ∷ []
   example_lost_reply = refl
 
+  -- the second push is outstanding: its fork stands, and it isn't joined into the server
+  abbrev outstanding : Tail
+  outstanding = record { sent = Some second; now = record { base = None; before = event.Say (Int (pos 3)) ∷ []; rest = [] } }
+
+  pub example_outstanding : steps_of (first ∷ []) (outstanding ∷ []) ≡
+      step.Fork 0 0 ∷ step.Do 1 (Cell 0 [] (Add (pos 1))) ∷ step.Mark 1 false ∷ step.Fork 1 0 ∷ step.Join 0 1 ∷ step.Fork 0 0
+      ∷ step.Do 2 (Cell 0 [] (Add (pos 2))) ∷ step.Mark 2 false ∷ step.Mark 2 true ∷ step.Join 3 2 ∷ step.Fork 3 0
+      ∷ step.Say 4 (Int (pos 3)) ∷ []
+  example_outstanding = refl
+
+  -- where the record has it, it is drawn once, as a batch
+  pub example_joined_already : steps_of (first ∷ second ∷ []) (outstanding ∷ []) ≡
+      step.Fork 0 0 ∷ step.Do 1 (Cell 0 [] (Add (pos 1))) ∷ step.Mark 1 false ∷ step.Fork 1 0 ∷ step.Join 0 1 ∷ step.Fork 0 0
+      ∷ step.Do 2 (Cell 0 [] (Add (pos 2))) ∷ step.Mark 2 false ∷ step.Mark 2 true ∷ step.Join 3 2 ∷ step.Fork 3 0 ∷ step.Join 0 3
+      ∷ step.Say 4 (Int (pos 3)) ∷ []
+  example_joined_already = refl
+
 module _ where
   abbrev say : ℕ → Event
   say n = event.Say (Int (pos n))
