@@ -1,0 +1,4 @@
+pub mod Code
+pub mod Exec
+pub mod Listing
+pub mod Valid

@@ -1,0 +1,10 @@
+// The instructions of a stack machine, valid codes and their listings.
+#![tactic(auto)]
+
+mod code;
+mod instruction;
+mod listing;
+
+pub use code::Code;
+pub use instruction::{Binary, Instruction, Instructions, Literal};
+pub use listing::print_code;
