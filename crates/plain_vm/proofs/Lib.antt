@@ -1,2 +1,4 @@
 mod Examples
+pub mod Pops
 mod ValidExamples
+pub mod Well

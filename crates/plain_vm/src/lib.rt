@@ -3,8 +3,10 @@
 
 mod code;
 mod instruction;
+mod laws;
 mod listing;
 
 pub use code::Code;
 pub use instruction::{Binary, Instruction, Instructions, Literal};
+pub use laws::valid_codes_are_never_stuck;
 pub use listing::print_code;

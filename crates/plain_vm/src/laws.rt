@@ -1,0 +1,29 @@
+// What every valid code keeps.
+ghost use Rattle.std.specs.Prelude.{◌≡◌, ◌<◌, ◌^◌, ℕ, List, All, Some, slice_get};
+ghost use Rattle.cloud_base.specs.Values.{most_clients};
+ghost use Rattle.cloud_base.specs.Shaped.{IsSchema};
+ghost use Rattle.cloud_base.specs.declared.schema.Schema.{Schema};
+ghost use Rattle.cloud_base.specs.declared.update.Answer.{Answer};
+ghost use Rattle.typed_program.specs.Does.{World, goes};
+ghost use Rattle.typed_program.specs.Laws.{events_of};
+ghost use Rattle.typed_program.specs.Shapes.{IsAnswered};
+ghost use Rattle.typed_program.specs.Trace.{start};
+ghost use Rattle.plain_vm.specs.declared.instruction.Instruction.{Instruction};
+ghost use Rattle.plain_vm.specs.Exec.{Standing, step, first};
+ghost use Rattle.plain_vm.specs.Fits.{Fits, ComesWell};
+ghost use Rattle.plain_vm.specs.Valid.{Shape, IsValid};
+
+/// A valid code begins well, and where its queries are answered in shape, each of its instructions
+/// leads from where the shape fits to where it fits again: no operand, kind, listing or place is
+/// missing. What it does, asks and ends with is of the schema's shape.
+pub fn valid_codes_are_never_stuck()
+    ensures begins { (schema : Schema) (code : List Instruction) (shapes : List Shape) (client : ℕ)
+        (answers : List Answer) → IsValid schema code shapes → client < most_clients →
+        ComesWell schema shapes (goes (Some first) (start client answers)) }
+    ensures steps { (schema : Schema) (code : List Instruction) (shapes : List Shape)
+        (shape : Shape) (standing : Standing) (w : World) → IsSchema schema →
+        IsValid schema code shapes → slice_get shapes standing.place ≡ Some shape →
+        Fits schema shape standing.stack standing.listings w → w.serial < 2 ^ 32 →
+        All (IsAnswered schema) (events_of (step code standing w)) →
+        ComesWell schema shapes (step code standing w) }
+{}
