@@ -1,15 +1,15 @@
 // What every valid code keeps.
-ghost use Rattle.std.specs.Prelude.{◌≡◌, ◌<◌, ◌^◌, ℕ, List, All, Some, slice_get};
+ghost use Rattle.std.specs.Prelude.{◌≡◌, ◌<◌, ◌+◌, ◌^◌, ℕ, List, All, Some, slice_get};
 ghost use Rattle.cloud_base.specs.Values.{most_clients};
 ghost use Rattle.cloud_base.specs.Shaped.{IsSchema};
 ghost use Rattle.cloud_base.specs.declared.schema.Schema.{Schema};
 ghost use Rattle.cloud_base.specs.declared.update.Answer.{Answer};
-ghost use Rattle.typed_program.specs.Does.{World, goes};
+ghost use Rattle.typed_program.specs.Does.{World, goes, then_by};
 ghost use Rattle.typed_program.specs.Laws.{events_of};
 ghost use Rattle.typed_program.specs.Shapes.{IsAnswered};
 ghost use Rattle.typed_program.specs.Trace.{start};
 ghost use Rattle.plain_vm.specs.declared.instruction.Instruction.{Instruction};
-ghost use Rattle.plain_vm.specs.Exec.{Standing, step, first};
+ghost use Rattle.plain_vm.specs.Exec.{Standing, step, exec, from_there, first};
 ghost use Rattle.plain_vm.specs.Fits.{Fits, ComesWell};
 ghost use Rattle.plain_vm.specs.Valid.{Shape, IsValid};
 
@@ -26,4 +26,11 @@ pub fn valid_codes_are_never_stuck()
         Fits schema shape standing.stack standing.listings w → w.serial < 2 ^ 32 →
         All (IsAnswered schema) (events_of (step code standing w)) →
         ComesWell schema shapes (step code standing w) }
+{}
+
+/// So many instructions, and then so many more, are as many as both.
+pub fn runs_add_up()
+    ensures { (code : List Instruction) (n m : ℕ) (standing : Standing) (w : World) →
+        exec code (n + m) standing w
+        ≡ then_by (exec code n standing w) (from_there (exec code m)) }
 {}
