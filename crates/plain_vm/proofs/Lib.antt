@@ -1,4 +1,5 @@
 mod Examples
+pub mod Falling
 pub mod Pops
 pub mod Runs
 mod ValidExamples

@@ -11,6 +11,7 @@ ghost use Rattle.typed_program.specs.Trace.{start};
 ghost use Rattle.plain_vm.specs.declared.instruction.Instruction.{Instruction};
 ghost use Rattle.plain_vm.specs.Exec.{Standing, step, exec, from_there, first};
 ghost use Rattle.plain_vm.specs.Fits.{Fits, ComesWell};
+ghost use Rattle.plain_vm.specs.Left.{left_to_do, Falls};
 ghost use Rattle.plain_vm.specs.Valid.{Shape, IsValid};
 
 /// A valid code begins well, and where its queries are answered in shape, each of its instructions
@@ -33,4 +34,13 @@ pub fn runs_add_up()
     ensures { (code : List Instruction) (n m : ℕ) (standing : Standing) (w : World) →
         exec code (n + m) standing w
         ≡ then_by (exec code n standing w) (from_there (exec code m)) }
+{}
+
+/// An instruction of a valid code that tells and asks nothing leaves less to do. So a machine comes
+/// to its next need.
+pub fn silent_instructions_end()
+    ensures { (schema : Schema) (code : List Instruction) (shapes : List Shape) (shape : Shape)
+        (standing : Standing) (w : World) → IsValid schema code shapes →
+        slice_get shapes standing.place ≡ Some shape →
+        Falls code w.events (left_to_do code standing w) (step code standing w) }
 {}

@@ -8,5 +8,5 @@ mod listing;
 
 pub use code::Code;
 pub use instruction::{Binary, Instruction, Instructions, Literal};
-pub use laws::{runs_add_up, valid_codes_are_never_stuck};
+pub use laws::{runs_add_up, silent_instructions_end, valid_codes_are_never_stuck};
 pub use listing::print_code;
