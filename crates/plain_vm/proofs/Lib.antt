@@ -2,5 +2,5 @@ mod Examples
 pub mod Falling
 pub mod Pops
 pub mod Runs
-mod ValidExamples
+pub mod ValidExamples
 pub mod Well

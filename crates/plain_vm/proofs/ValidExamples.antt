@@ -1,7 +1,7 @@
 -- Worked examples of valid codes.
-use Rattle.std.proofs.Common.{◌≡◌, refl, sym, ap, ◌∙◌, lit<, lit≤}
+use Rattle.std.proofs.Common.{◌≡◌, refl, sym, ap, ◌∙◌, subst, lit<, lit≤}
 use Rattle.std.proofs.lemmas.List.Elements.{All-nil, All-cons}
-use Rattle.std.specs.Prelude.{true, List, [], ◌∷◌}
+use Rattle.std.specs.Prelude.{pos, true, List, [], ◌∷◌}
 use mathlib.Core.Logic.{inl, inr}
 use Rattle.cloud_base.specs.Shaped.{IsSchema, AreKeyTypes, AreOwnersKeys}
 use Rattle.cloud_base.specs.declared.schema.CellType.TheVariants as cell
@@ -123,3 +123,26 @@ example_no_operand h = nothing_said h.1 h.2
 -- the last instruction is `end`
 pub example_no_end : ¬ IsCode one_global (i.Begin ∷ i.Jump 0 ∷ [])
 example_no_end h = let e = h.2.last in cc
+
+abbrev says : List Instruction
+says = i.Push (literal.Int (pos 7)) ∷ i.Say ∷ i.End ∷ []
+
+abbrev empty : Schema
+empty = record { properties = []; entities = [] }
+
+-- a code that no source has
+pub example_says : IsCode empty says
+example_says = (
+  record { few_properties = lit≤ tt; few_entities = lit≤ tt; property_keys = All-nil _; owners_keys = All-nil _; entity_keys = All-nil _ },
+  with [] ∷ with (Int ∷ []) ∷ with [] ∷ [],
+  record {
+    begins = (with [], refl, same (with []));
+    fine = ((record { sfits = lit< tt }, (with (Int ∷ []), refl, same (with (Int ∷ [])))), tt, ((Int, [], refl, (with [], refl, same (with []))), tt, (tt, tt, tt)));
+    last = refl;
+  },
+)
+
+pub says_is_code : (schema : Schema) (code : List Instruction) → schema.properties ≡ [] → schema.entities ≡ [] → code ≡ says → IsCode schema code
+says_is_code schema code p e c =
+    let same : schema ≡ empty = ap (λ x. record { properties = x; entities = schema.entities }) p ∙ ap (λ y. record { properties = []; entities = y }) e in
+    subst (λ s. IsCode s code) (sym same) (subst (IsCode empty) (sym c) example_says)
