@@ -1,5 +1,5 @@
 -- What reading a tree and what a call promise, from what their parts did.
-use Rattle.std.proofs.Common.{◌≡◌, ℕ, List, [], ◌∷◌, refl, ap, inl, inr, lit≤, ◌∙◌, sym}
+use Rattle.std.proofs.Common.{◌≡◌, ℕ, List, [], ◌∷◌, refl, ap, inl, inr, lit≤}
 use Rattle.std.specs.Prelude.{Option, Some, None, Ok, Err}
 use Rattle.cloud_base.specs.Causes.{Rose}
 use Rattle.source_tree.specs.declared.program.Program.{Program}
@@ -50,7 +50,7 @@ reports_run p f text headline told first is report = record {
 
 -- what was made lawfully is written lawfully
 pub writes_lawful : (command : Command) (left held now : Option (List ℕ)) (parsed : Parsed) (text : List ℕ) → LeftParsed left parsed → IsLawfulText command parsed.tree text → Got held now text → WritesLawful (Some command) left held now
-writes_lawful Check left held now parsed text said lawful got = tt
+writes_lawful Check left held now parsed text said lawful got = (parsed, text, said, lawful, got)
 writes_lawful Play left held now parsed text said lawful got = (parsed, text, said, lawful, got)
 
 module _ {S : Type 0} (left : S → Option (List ℕ)) (faults ends : S → ℕ) (source source' : S) where

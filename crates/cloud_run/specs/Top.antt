@@ -1,5 +1,5 @@
 -- What a command reads and writes, by its status.
-use Rattle.std.specs.Prelude.{◌≡◌, ◌≢◌, refl, ℕ, ◌≤◌, ⊤, List, [], ◌∷◌, Option, Some, None, option_map, Ok, Err, codes}
+use Rattle.std.specs.Prelude.{◌≡◌, ◌≢◌, refl, ℕ, ◌≤◌, ⊤, List, [], ◌∷◌, length, Option, Some, None, option_map, Ok, Err, codes}
 use Rattle.std.proofs.Common.{lit≤, not-suc-le-zero}
 use Rattle.cloud_base.specs.Causes.{Rose}
 use Rattle.cloud_base.specs.declared.end.End.{End}
@@ -11,11 +11,12 @@ use Rattle.source_tree.specs.Programs.{program, no_declarations, client, no_clie
 use Rattle.source_tree.specs.Statements.{block, no_statements}
 use Rattle.source_tree.specs.declared.program.Client.{Client}
 use Rattle.source_tree.specs.declared.program.Program.{Program}
-use Rattle.cloud_parse.specs.Parse.{ParseAnswers}
+use Rattle.cloud_parse.specs.Parse.{ParseAnswers, most_source_bytes}
 use Rattle.cloud_parse.specs.declared.fault.ParseFault.TheVariants as fault
 use Rattle.cloud_parse.specs.declared.fault.Which.TheVariants as which
 use Rattle.cloud_parse.specs.declared.parsed.Parsed.{Parsed}
 use Rattle.source_print.specs.Canonical.{canonical}
+use Rattle.print_parses.specs.Parsing.{ParsesTo}
 use Rattle.first_form.specs.FirstForm.{FirstForm, first_form}
 use Rattle.revision_diagram.specs.declared.step.Step.{Step}
 use Rattle.step_text.specs.Legible.{Told}
@@ -92,15 +93,19 @@ pub record ReportsRun (p : Program) (text : List ℕ) : Type 0 where
   pub report : text ≡ report_text (schema_of form) (form.client ∷ []) steps (end ∷ [])
   pub told : Told (schema_of form) (form.client ∷ []) steps (end ∷ [])
 
+-- the text is a source of the program, if it isn't too long to be one
+abbrev pub ParsesAgain : Program → List ℕ → Type 0
+ParsesAgain p text = length text ≤ most_source_bytes → ParsesTo text p
+
 -- what is known of a text that a command made
 abbrev pub IsLawfulText : Command → Program → List ℕ → Type 0
-IsLawfulText Check p text = ⊤
+IsLawfulText Check p text = ParsesAgain p text
 IsLawfulText Play p text = ReportsRun p text
 
--- what `play` wrote reports a run of the source's program
+-- what `check` wrote is parsed to the source's program again, and what `play` wrote reports a run of that
 abbrev pub WritesLawful : Option Command → Option (List ℕ) → Option (List ℕ) → Option (List ℕ) → Type 0
 WritesLawful None left held now = ⊤
-WritesLawful (Some Check) left held now = ⊤
+WritesLawful (Some Check) left held now = (parsed : Parsed) × (text : List ℕ) × LeftParsed left parsed × ParsesAgain parsed.tree text × Got held now text
 WritesLawful (Some Play) left held now = (parsed : Parsed) × (text : List ℕ) × LeftParsed left parsed × ReportsRun parsed.tree text × Got held now text
 
 -- there is a command, and the source tells its text, which the command accepts

@@ -2,7 +2,7 @@
 ghost use Rattle.std.specs.Prelude.{◌≡◌, Some, IfOk, IfSome};
 ghost use Rattle.cloud_run.specs.Commands.{command_of};
 ghost use Rattle.cloud_run.specs.Runs.{ReadsTree, Runs};
-ghost use Rattle.cloud_run.specs.Top.{ReportsRun, text_of, IsLawfulText};
+ghost use Rattle.cloud_run.specs.Top.{ParsesAgain, ReportsRun, text_of, IsLawfulText};
 
 use crate::command::Command;
 use crate::flows::{ReadError, take_all, write_all};
@@ -13,6 +13,7 @@ use cloud_drive::play;
 use cloud_parse::{ParseFault, Parsed, Which, one_answer, parse};
 use first_form::first_form;
 use one_client::{reports_tell_runs, runs_are_lawful};
+use print_parses::print_parses;
 use source_print::print;
 use source_tokens::scanned_tokens;
 use source_tree::Tree;
@@ -39,6 +40,17 @@ fn read_tree<S: Source>(alloc: Global, source: &mut S) -> Result<Parsed, Status>
     }
 }
 
+// The canonical text of a program.
+fn canonical_text(alloc: Global, tree: &Tree) -> Result<Sequence<u8>, Memory>
+    ensures text { IfOk result (λ text. Some text ≡ text_of Command.Check tree.now) }
+    ensures lawful { IfOk result (ParsesAgain tree.now) }
+{
+    let _ = tree.program();
+    print_parses();
+    let text = print(alloc, tree)?;
+    Ok(Sequence::from_vec(text))
+}
+
 // The report of a run of a program in the first form.
 #[tactic(auto, using(crate::proofs::Calls::reports_run))]
 fn report(alloc: Global, tree: &Tree) -> Result<Option<Sequence<u8>>, Memory>
@@ -61,7 +73,7 @@ fn text_of(alloc: Global, command: Command, tree: &Tree) -> Result<Option<Sequen
     ensures lawful { IfOk result (λ text. IfSome text (IsLawfulText command tree.now)) }
 {
     match command {
-        Command::Check => Ok(Some(Sequence::from_vec(print(alloc, tree)?))),
+        Command::Check => Ok(Some(canonical_text(alloc, tree)?)),
         Command::Play => report(alloc, tree),
     }
 }
