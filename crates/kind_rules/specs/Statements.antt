@@ -1,7 +1,7 @@
 -- Which rules of kinds fail at the statements of a body, in their order, and the typed statements.
--- Rules have their numbers: 1 names that are taken, 2 what a name must be, 4 how many names there are,
--- 6 and 7 what an update may be, 8 assignments, 9 conditions, 10 what has entries, 12 how many variables
--- are visible at once.
+-- Rules have their numbers: 1 names that are taken, 2 what a name must be, 4 how many keys or names there
+-- are, 5 the kinds of keys, 6 and 7 what an update may be, 8 assignments, 9 conditions, 10 what has entries,
+-- 12 how many variables are visible at once.
 use Rattle.std.specs.Prelude.{ℕ, ◌+◌, ◌==◌, ◌||◌, not, Bool, true, false, List, [], ◌∷◌, ◌++◌, length, map, min, is_some, Option, Some, None, nat_le}
 use Rattle.cloud_base.specs.PlainCell.{ValueKind, Number, Words, value_kind}
 use Rattle.cloud_base.specs.Shaped.{property_at, entity_at, cell_type}
