@@ -1,0 +1,9 @@
+pub mod Rules
+pub mod Forms
+pub mod Fits
+pub mod Places
+pub mod Names
+pub mod Statements
+pub mod Tells
+pub mod Blocks
+pub mod FitStatements

@@ -1,0 +1,5 @@
+use Rattle.kind_bodies.proofs.Tells.{no_memory}
+use Rattle.kind_bodies.proofs.plain.print.Goals as goal
+
+pub returns-in_err-found : goal.returns-in_err-found
+returns-in_err-found c = no_memory _ _ c.from_residual.result c.from_residual.ensures.1

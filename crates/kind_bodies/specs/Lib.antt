@@ -1,0 +1,4 @@
+pub mod Found
+pub mod Operators
+pub mod Settles
+pub mod Effects
