@@ -1,0 +1,7 @@
+use Rattle.std.proofs.Common.{◌≡◌, [], drop}
+use Rattle.kind_rules.specs.Names.{is_repeated}
+use Rattle.kind_rules.specs.Declarations.{own_names}
+use Rattle.kind_declarations.proofs.rules.are_properties_repeated.Given as goal
+
+abbrev pub invariant-loop-place : goal.invariant-loop-place
+invariant-loop-place l = is_repeated (own_names [] (drop l.place l.properties)) ≡ is_repeated (own_names [] l.properties)
