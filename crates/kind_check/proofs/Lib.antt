@@ -1,0 +1,4 @@
+pub mod Whose
+pub mod Faulty
+pub mod Left
+pub mod Together
