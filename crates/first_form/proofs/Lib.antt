@@ -1,3 +1,4 @@
-mod Places
+mod Bodies
 mod Read
 mod Turns
+mod Within

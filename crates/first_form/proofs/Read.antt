@@ -1,24 +1,23 @@
 -- What the first form reads of each kind of expression and statement.
-use Rattle.std.proofs.Common.{◌≡◌, ℕ, Bool, true, false, List, Option, Some, None, option_map, ap, sym, ◌∙◌}
-use Rattle.source_tree.specs.declared.expression.Expression.{Expression}
-use Rattle.source_tree.specs.declared.expression.Expression.TheFolds.{fold-roll-Expression}
-use Rattle.source_tree.specs.declared.expression.Expression.TheOpen.{Expression-F}
-use Rattle.source_tree.specs.declared.expression.Expression.TheVariants as e
-use Rattle.source_tree.specs.declared.expression.Operator.{Operator}
-use Rattle.source_tree.specs.declared.expression.Place.{Place}
-use Rattle.source_tree.specs.declared.expression.Place.TheVariants as place
-use Rattle.source_tree.specs.declared.statement.Operation.{Operation}
-use Rattle.source_tree.specs.declared.statement.Statement.{Statement}
-use Rattle.source_tree.specs.declared.statement.Statement.TheFolds.{fold-roll-Statement}
-use Rattle.source_tree.specs.declared.statement.Statement.TheOpen.{Statement-F}
-use Rattle.source_tree.specs.declared.statement.Statement.TheVariants as s
+use Rattle.std.proofs.Common.{◌≡◌, ℕ, ℤ, Bool, List, Option, Some, None, map, option_map, ap, sym, ◌∙◌}
+use Rattle.typed_program.specs.declared.expression.Expression.{Expression}
+use Rattle.typed_program.specs.declared.expression.Expression.TheFolds.{fold-roll-Expression}
+use Rattle.typed_program.specs.declared.expression.Expression.TheOpen.{Expression-F}
+use Rattle.typed_program.specs.declared.expression.Expression.TheVariants as e
+use Rattle.typed_program.specs.declared.expression.Kind.{Kind}
+use Rattle.typed_program.specs.declared.expression.Operator.{Operator}
+use Rattle.typed_program.specs.declared.statement.Operation.{Operation}
+use Rattle.typed_program.specs.declared.statement.Statement.{Statement}
+use Rattle.typed_program.specs.declared.statement.Statement.TheFolds.{fold-roll-Statement}
+use Rattle.typed_program.specs.declared.statement.Statement.TheOpen.{Statement-F}
+use Rattle.typed_program.specs.declared.statement.Statement.TheVariants as s
 use Rattle.first_form.specs.declared.form.FirstAct.{FirstAct}
 use Rattle.first_form.specs.declared.form.FirstAct.TheVariants.{Print, Yield}
-use Rattle.first_form.specs.FirstForm.{Simple, nothing, signed, simple_step, simple, global_of, change_of, act_step, act_of}
+use Rattle.first_form.specs.FirstForm.{Simple, nothing, negated, global_with, simple_step, simple, change_of, act_step, act_of}
 
-pub simple_number : (n : ℕ) → simple (e.Number n) ≡ record { number = Some n; amount = Some (signed false n); name = None }
+pub simple_int : (n : ℤ) → simple (e.Int n) ≡ record { number = Some n; amount = Some n; global = None }
 unfolding simple
-simple_number n = ap (λ x. simple x) (sym (e.rolls-Number n)) ∙ fold-roll-Expression Simple simple_step (Expression-F.Number n)
+simple_int n = ap (λ x. simple x) (sym (e.rolls-Int n)) ∙ fold-roll-Expression Simple simple_step (Expression-F.Int n)
 
 pub simple_text : (bytes : List ℕ) → simple (e.Text bytes) ≡ nothing
 unfolding simple
@@ -28,11 +27,19 @@ pub simple_truth : (b : Bool) → simple (e.Truth b) ≡ nothing
 unfolding simple
 simple_truth b = ap (λ x. simple x) (sym (e.rolls-Truth b)) ∙ fold-roll-Expression Simple simple_step (Expression-F.Truth b)
 
-pub simple_alive : (x : List ℕ) → simple (e.Alive x) ≡ nothing
+pub simple_slot : (n : ℕ) (kind : Kind) → simple (e.Slot n kind) ≡ nothing
 unfolding simple
-simple_alive x = ap (λ x. simple x) (sym (e.rolls-Alive x)) ∙ fold-roll-Expression Simple simple_step (Expression-F.Alive x)
+simple_slot n kind = ap (λ x. simple x) (sym (e.rolls-Slot n kind)) ∙ fold-roll-Expression Simple simple_step (Expression-F.Slot n kind)
 
-pub simple_minus : (a : Expression) → simple (e.Minus a) ≡ record { number = None; amount = option_map (signed true) (simple a).number; name = None }
+pub simple_get : (g : ℕ) (keys : List Expression) → simple (e.Get g keys) ≡ record { number = None; amount = None; global = global_with (map simple keys) g }
+unfolding simple
+simple_get g keys = ap (λ x. simple x) (sym (e.rolls-Get g keys)) ∙ fold-roll-Expression Simple simple_step (Expression-F.Get g keys)
+
+pub simple_alive : (n entity : ℕ) → simple (e.Alive n entity) ≡ nothing
+unfolding simple
+simple_alive n entity = ap (λ x. simple x) (sym (e.rolls-Alive n entity)) ∙ fold-roll-Expression Simple simple_step (Expression-F.Alive n entity)
+
+pub simple_minus : (a : Expression) → simple (e.Minus a) ≡ record { number = None; amount = option_map negated (simple a).number; global = None }
 unfolding simple
 simple_minus a = ap (λ x. simple x) (sym (e.rolls-Minus a)) ∙ fold-roll-Expression Simple simple_step (Expression-F.Minus a)
 
@@ -40,76 +47,68 @@ pub simple_not : (a : Expression) → simple (e.Not a) ≡ nothing
 unfolding simple
 simple_not a = ap (λ x. simple x) (sym (e.rolls-Not a)) ∙ fold-roll-Expression Simple simple_step (Expression-F.Not a)
 
-pub simple_binary : (op : Operator) (a b : Expression) → simple (e.Binary op a b) ≡ nothing
+pub simple_binary : (operator : Operator) (a b : Expression) → simple (e.Binary operator a b) ≡ nothing
 unfolding simple
-simple_binary op a b = ap (λ x. simple x) (sym (e.rolls-Binary op a b)) ∙ fold-roll-Expression Simple simple_step (Expression-F.Binary op a b)
+simple_binary operator a b = ap (λ x. simple x) (sym (e.rolls-Binary operator a b)) ∙ fold-roll-Expression Simple simple_step (Expression-F.Binary operator a b)
 
-pub simple_name : (x : List ℕ) → simple (e.Place (place.Name x)) ≡ record { number = None; amount = None; name = Some x }
+pub simple_and : (a b : Expression) → simple (e.And a b) ≡ nothing
 unfolding simple
-simple_name x = ap (λ x. simple x) (sym (e.rolls-Place (place.Name x))) ∙ fold-roll-Expression Simple simple_step (Expression-F.Place (place.Name x))
+simple_and a b = ap (λ x. simple x) (sym (e.rolls-And a b)) ∙ fold-roll-Expression Simple simple_step (Expression-F.And a b)
 
-pub simple_field : (x p : List ℕ) → simple (e.Place (place.Field x p)) ≡ record { number = None; amount = None; name = None }
+pub simple_or : (a b : Expression) → simple (e.Or a b) ≡ nothing
 unfolding simple
-simple_field x p = ap (λ x. simple x) (sym (e.rolls-Place (place.Field x p))) ∙ fold-roll-Expression Simple simple_step (Expression-F.Place (place.Field x p))
+simple_or a b = ap (λ x. simple x) (sym (e.rolls-Or a b)) ∙ fold-roll-Expression Simple simple_step (Expression-F.Or a b)
 
-pub simple_entry : (x : List ℕ) (keys : List Expression) (p : List ℕ) → simple (e.Place (place.Entry x keys p)) ≡ record { number = None; amount = None; name = None }
-unfolding simple
-simple_entry x keys p = ap (λ x. simple x) (sym (e.rolls-Place (place.Entry x keys p))) ∙ fold-roll-Expression Simple simple_step (Expression-F.Place (place.Entry x keys p))
-
-pub act_define : (globals : List (List ℕ)) (x : List ℕ) (a : Expression) → act_of globals (s.Define x a) ≡ None
+pub act_store : (line n : ℕ) (a : Expression) → act_of (s.Store line n a) ≡ None
 unfolding act_of
-act_define globals x a = ap (λ x. act_of globals x) (sym (s.rolls-Define x a)) ∙ fold-roll-Statement (Option FirstAct) (act_step globals) (Statement-F.Define x a)
+act_store line n a = ap (λ x. act_of x) (sym (s.rolls-Store line n a)) ∙ fold-roll-Statement (Option FirstAct) act_step (Statement-F.Store line n a)
 
-pub act_create : (globals : List (List ℕ)) (x n : List ℕ) (keys : List Expression) → act_of globals (s.Create x n keys) ≡ None
+pub act_create : (line n entity : ℕ) (keys : List Expression) → act_of (s.Create line n entity keys) ≡ None
 unfolding act_of
-act_create globals x n keys = ap (λ x. act_of globals x) (sym (s.rolls-Create x n keys)) ∙ fold-roll-Statement (Option FirstAct) (act_step globals) (Statement-F.Create x n keys)
+act_create line n entity keys = ap (λ x. act_of x) (sym (s.rolls-Create line n entity keys)) ∙ fold-roll-Statement (Option FirstAct) act_step (Statement-F.Create line n entity keys)
 
-pub act_assign : (globals : List (List ℕ)) (x : List ℕ) (a : Expression) → act_of globals (s.Assign x a) ≡ None
+pub act_update : (line g : ℕ) (keys : List Expression) (op : Operation) (a : Expression) → act_of (s.Update line g keys op a) ≡ change_of g keys op (simple a).amount
 unfolding act_of
-act_assign globals x a = ap (λ x. act_of globals x) (sym (s.rolls-Assign x a)) ∙ fold-roll-Statement (Option FirstAct) (act_step globals) (Statement-F.Assign x a)
+act_update line g keys op a = ap (λ x. act_of x) (sym (s.rolls-Update line g keys op a)) ∙ fold-roll-Statement (Option FirstAct) act_step (Statement-F.Update line g keys op a)
 
-pub act_update : (globals : List (List ℕ)) (p : Place Expression) (op : Operation) (a : Expression) → act_of globals (s.Update p op a) ≡ change_of globals p op a
+pub act_delete : (line n entity : ℕ) → act_of (s.Delete line n entity) ≡ None
 unfolding act_of
-act_update globals p op a = ap (λ x. act_of globals x) (sym (s.rolls-Update p op a)) ∙ fold-roll-Statement (Option FirstAct) (act_step globals) (Statement-F.Update p op a)
+act_delete line n entity = ap (λ x. act_of x) (sym (s.rolls-Delete line n entity)) ∙ fold-roll-Statement (Option FirstAct) act_step (Statement-F.Delete line n entity)
 
-pub act_delete : (globals : List (List ℕ)) (x : List ℕ) → act_of globals (s.Delete x) ≡ None
+pub act_if : (line : ℕ) (a : Expression) (first : List Statement) → act_of (s.If line a first None) ≡ None
 unfolding act_of
-act_delete globals x = ap (λ x. act_of globals x) (sym (s.rolls-Delete x)) ∙ fold-roll-Statement (Option FirstAct) (act_step globals) (Statement-F.Delete x)
+act_if line a first = ap (λ x. act_of x) (sym (s.rolls-If line a first None)) ∙ fold-roll-Statement (Option FirstAct) act_step (Statement-F.If line a first None)
 
-pub act_if : (globals : List (List ℕ)) (a : Expression) (first : List Statement) → act_of globals (s.If a first None) ≡ None
+pub act_if_else : (line : ℕ) (a : Expression) (first second : List Statement) → act_of (s.If line a first (Some second)) ≡ None
 unfolding act_of
-act_if globals a first = ap (λ x. act_of globals x) (sym (s.rolls-If a first None)) ∙ fold-roll-Statement (Option FirstAct) (act_step globals) (Statement-F.If a first None)
+act_if_else line a first second = ap (λ x. act_of x) (sym (s.rolls-If line a first (Some second))) ∙ fold-roll-Statement (Option FirstAct) act_step (Statement-F.If line a first (Some second))
 
-pub act_if_else : (globals : List (List ℕ)) (a : Expression) (first : List Statement) (second : List Statement) → act_of globals (s.If a first (Some second)) ≡ None
+pub act_while : (line : ℕ) (a : Expression) (block : List Statement) → act_of (s.While line a block) ≡ None
 unfolding act_of
-act_if_else globals a first second = ap (λ x. act_of globals x) (sym (s.rolls-If a first (Some second))) ∙ fold-roll-Statement (Option FirstAct) (act_step globals) (Statement-F.If a first (Some second))
+act_while line a block = ap (λ x. act_of x) (sym (s.rolls-While line a block)) ∙ fold-roll-Statement (Option FirstAct) act_step (Statement-F.While line a block)
 
-pub act_while : (globals : List (List ℕ)) (a : Expression) (body : List Statement) → act_of globals (s.While a body) ≡ None
+pub act_for_all : (line n entity : ℕ) (block : List Statement) → act_of (s.ForAll line n entity block) ≡ None
 unfolding act_of
-act_while globals a body = ap (λ x. act_of globals x) (sym (s.rolls-While a body)) ∙ fold-roll-Statement (Option FirstAct) (act_step globals) (Statement-F.While a body)
+act_for_all line n entity block = ap (λ x. act_of x) (sym (s.rolls-ForAll line n entity block)) ∙ fold-roll-Statement (Option FirstAct) act_step (Statement-F.ForAll line n entity block)
 
-pub act_for_all : (globals : List (List ℕ)) (x n : List ℕ) (body : List Statement) → act_of globals (s.ForAll x n body) ≡ None
+pub act_for_entries : (line n property : ℕ) (block : List Statement) → act_of (s.ForEntries line n property block) ≡ None
 unfolding act_of
-act_for_all globals x n body = ap (λ x. act_of globals x) (sym (s.rolls-ForAll x n body)) ∙ fold-roll-Statement (Option FirstAct) (act_step globals) (Statement-F.ForAll x n body)
+act_for_entries line n property block = ap (λ x. act_of x) (sym (s.rolls-ForEntries line n property block)) ∙ fold-roll-Statement (Option FirstAct) act_step (Statement-F.ForEntries line n property block)
 
-pub act_for_entries : (globals : List (List ℕ)) (xs : List (List ℕ)) (n p : List ℕ) (body : List Statement) → act_of globals (s.ForEntries xs n p body) ≡ None
+pub act_print : (line : ℕ) (a : Expression) → act_of (s.Print line a) ≡ option_map Print (simple a).global
 unfolding act_of
-act_for_entries globals xs n p body = ap (λ x. act_of globals x) (sym (s.rolls-ForEntries xs n p body)) ∙ fold-roll-Statement (Option FirstAct) (act_step globals) (Statement-F.ForEntries xs n p body)
+act_print line a = ap (λ x. act_of x) (sym (s.rolls-Print line a)) ∙ fold-roll-Statement (Option FirstAct) act_step (Statement-F.Print line a)
 
-pub act_print : (globals : List (List ℕ)) (a : Expression) → act_of globals (s.Print a) ≡ option_map Print (global_of globals (simple a).name)
+pub act_yield : (line : ℕ) → act_of (s.Yield line) ≡ Some Yield
 unfolding act_of
-act_print globals a = ap (λ x. act_of globals x) (sym (s.rolls-Print a)) ∙ fold-roll-Statement (Option FirstAct) (act_step globals) (Statement-F.Print a)
+act_yield line = ap (λ x. act_of x) (sym (s.rolls-Yield line)) ∙ fold-roll-Statement (Option FirstAct) act_step (Statement-F.Yield line)
 
-pub act_yield : (globals : List (List ℕ)) → act_of globals (s.Yield) ≡ Some Yield
+pub act_flush : (line : ℕ) → act_of (s.Flush line) ≡ None
 unfolding act_of
-act_yield globals = ap (λ x. act_of globals x) (sym (s.rolls-Yield)) ∙ fold-roll-Statement (Option FirstAct) (act_step globals) (Statement-F.Yield)
-
-pub act_flush : (globals : List (List ℕ)) → act_of globals (s.Flush) ≡ None
-unfolding act_of
-act_flush globals = ap (λ x. act_of globals x) (sym (s.rolls-Flush)) ∙ fold-roll-Statement (Option FirstAct) (act_step globals) (Statement-F.Flush)
+act_flush line = ap (λ x. act_of x) (sym (s.rolls-Flush line)) ∙ fold-roll-Statement (Option FirstAct) act_step (Statement-F.Flush line)
 
 -- each kind of expression
-pub ruleset expressions = (simple_number, simple_text, simple_truth, simple_alive, simple_minus, simple_not, simple_binary, simple_name, simple_field, simple_entry)
+pub ruleset expressions = (simple_int, simple_text, simple_truth, simple_slot, simple_get, simple_alive, simple_minus, simple_not, simple_binary, simple_and, simple_or)
 
 -- each kind of statement
-pub ruleset statements = (act_define, act_create, act_assign, act_update, act_delete, act_if, act_if_else, act_while, act_for_all, act_for_entries, act_print, act_yield, act_flush)
+pub ruleset statements = (act_store, act_create, act_update, act_delete, act_if, act_if_else, act_while, act_for_all, act_for_entries, act_print, act_yield, act_flush)

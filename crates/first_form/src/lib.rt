@@ -1,10 +1,10 @@
 // The first form of programs, which `play` takes until it takes every program.
 #![tactic(auto)]
 
+mod bare;
 mod form;
 mod reading;
-#[cfg(test)]
-mod tests;
 
-pub use form::{Amount, FirstAct, FirstOperation, FirstProgram, MOST_GLOBALS};
+pub use bare::is_bare;
+pub use form::{FirstAct, FirstOperation};
 pub use reading::first_form;
