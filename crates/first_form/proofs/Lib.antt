@@ -1,4 +1,5 @@
 mod Bodies
-mod Read
+pub mod Opened
+pub mod Read
 mod Turns
 mod Within

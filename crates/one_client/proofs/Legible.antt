@@ -1,92 +1,126 @@
 -- A run's report is legible: its names are told apart, and its steps are of the schema's shape.
-use Rattle.std.proofs.Common.{◌≡◌, ◌≢◌, ◌∙◌, refl, sym, ap, subst, arith, ℕ, zero, suc, ◌+◌, ◌*◌, ◌-◌, neg_ℤ, ◌<◌, ◌≤◌, ◌^◌, Bool, true, false, cond, List, [], ◌∷◌, ◌++◌, length, get_or, pos, FitsSigned, Option, Some, None}
-use Rattle.std.specs.Prelude.{All, IfSome, MatchOption, ⊤, slice_get, map, unwrap_or, if◌then◌else◌, option_map}
-use Rattle.std.specs.Option.{option_map_or}
-use Rattle.std.proofs.lemmas.Bool.{false≢true}
-use Rattle.std.proofs.lemmas.Slice.Eq.{bytes_eq-Decides}
-use Rattle.std.specs.List.{AllByRecursion}
+use Rattle.std.proofs.Common.{◌≡◌, ◌∙◌, refl, sym, ap, subst, arith, ℕ, zero, suc, ◌+◌, ◌*◌, ◌-◌, ◌<◌, ◌≤◌, ◌^◌, Bool, true, false, List, [], ◌∷◌, ◌++◌, length, FitsSigned, Option, Some, None}
+use Rattle.std.specs.Prelude.{All, IfSome, slice_get, unwrap_or, if◌then◌else◌}
+use Rattle.std.specs.List.{AllByRecursion, list_all}
 use Rattle.std.specs.Int.{w64}
-use Rattle.std.specs.Str.{bytes_eq}
+use Rattle.std.proofs.lemmas.Bool.{and_parts, false≢true}
 use Rattle.std.proofs.lemmas.List.Elements.{All-from_recursion, recursion_from_All, All-nil, All-cons}
 use Rattle.cloud_base.specs.Values.{IsName}
+use Rattle.cloud_base.specs.Events.{Outcome, ended, answers_in}
 use Rattle.cloud_base.specs.Log.{of_cell}
-use Rattle.cloud_base.specs.PlainCell.{plain_int, plain_value}
-use Rattle.cloud_base.specs.Shaped.{AreKeys, IsCell, IsChange, IsValue, IsShaped, IsShapedAnswer, IsShapedEvent, IsSaid, cell_type}
+use Rattle.cloud_base.specs.PlainCell.{plain_int}
+use Rattle.cloud_base.specs.Shaped.{AreOwnersKeys, IsValue, IsShapedAnswer, IsShapedEvent, property_at}
 use Rattle.cloud_base.specs.Answer.{answer}
 use Rattle.cloud_base.specs.declared.end.End.{End}
+use Rattle.cloud_base.specs.declared.schema.CellType.{CellType}
 use Rattle.cloud_base.specs.declared.schema.CellType.TheVariants.{Int as IntCell}
+use Rattle.cloud_base.specs.declared.schema.Entity.{Entity}
+use Rattle.cloud_base.specs.declared.schema.KeyType.{KeyType}
+use Rattle.cloud_base.specs.declared.schema.Owner.{Owner}
+use Rattle.cloud_base.specs.declared.schema.Owner.TheVariants as owner
 use Rattle.cloud_base.specs.declared.schema.Property.{Property}
 use Rattle.cloud_base.specs.declared.schema.Schema.{Schema}
-use Rattle.cloud_base.specs.declared.update.Answer.TheVariants.{Int}
+use Rattle.cloud_base.specs.declared.update.Answer.{Answer}
 use Rattle.cloud_base.specs.declared.update.CellChange.{CellChange}
 use Rattle.cloud_base.specs.declared.update.Event.{Event}
 use Rattle.cloud_base.specs.declared.update.Event.TheVariants as event
 use Rattle.cloud_base.specs.declared.update.Update.{Update}
+use Rattle.typed_program.specs.Programs.{IsProgram, HasName, owner_name}
+use Rattle.typed_program.specs.Shapes.{IsAnswered, IsShapedTrace}
+use Rattle.typed_program.specs.Trace.{budget, trace}
+use Rattle.typed_program.specs.declared.program.Parts.{Parts}
+use Rattle.typed_program.specs.declared.statement.Statement.{Statement}
 use Rattle.first_form.specs.declared.form.FirstAct.{FirstAct}
 use Rattle.first_form.specs.declared.form.FirstAct.TheVariants.{Change, Print, Yield}
-use Rattle.first_form.specs.declared.form.Amount.{Amount}
-use Rattle.first_form.specs.declared.form.FirstOperation.{FirstOperation}
-use Rattle.first_form.specs.declared.form.FirstOperation.TheVariants.{Add, Set}
-use Rattle.source_tokens.specs.Terminals.{IsIdentifier}
-use Rattle.first_form.specs.FirstForm.{FirstForm, IsFirstForm, ActFits, AllDifferent, place_of, amount_value}
+use Rattle.first_form.specs.FirstForm.{is_int_of, is_int_global, has_no_entity, first_form}
+use Rattle.first_form.proofs.Opened.{IsFirst, opened, globals_are_ints}
 use Rattle.revision_diagram.specs.declared.step.Step.{Step}
 use Rattle.revision_diagram.specs.declared.step.Step.TheVariants.{Fork}
-use Rattle.step_text.specs.Cells.{property_of}
-use Rattle.step_text.specs.Legible.{Legible, IsProperty, IsStep, IsEnd, Told}
-use Rattle.one_client.specs.Program.{schema_of, global_property, budget, cost, begun, end_from, end_of, query_of, change_of, update_of, events_from, events_of}
+use Rattle.step_text.specs.Cells.{property_of, property_owner_text, property_text}
+use Rattle.step_text.specs.Legible.{Legible, IsProperty, IsOwner, IsStep, IsEnd, Told}
+use Rattle.one_client.specs.Program.{cost, begun, end_from, end_of, query_of, update_of, events_from, events_of}
 use Rattle.one_client.specs.Steps.{Run, first_run, steps_from, steps_of, goes_on, pull, yield_steps, after_yield}
+use Rattle.one_client.proofs.Told.{HasInts, answer_is, told_is_trace}
 
 -- ---- names
-same_bytes : (a : List ℕ) → bytes_eq a a ≡ true
-same_bytes a = (bytes_eq-Decides a a).1 refl
+owner_is : (schema : Schema) (o : Owner) (cell : CellType) (keys : List KeyType) → is_int_of o cell ≡ true → AreOwnersKeys o keys → IsOwner schema o keys
+owner_is schema owner.Global cell keys is h = h
+owner_is schema (owner.Array name) cell keys is h = absurd (false≢true is)
+owner_is schema (owner.Entity number) cell keys is h = absurd (false≢true is)
 
-taken : (b : Bool) (place : Option ℕ) → b ≡ true → cond b (Some 0) place ≢ None
-taken true place h e = absurd (cc e)
-taken false place h e = false≢true h
+abbrev IsNamed : Property → Type 0
+IsNamed p = IsName p.name × HasName p.owner
 
-further : (b : Bool) (place : Option ℕ) → place ≢ None → cond b (Some 0) (option_map (λ n. n + 1) place) ≢ None
-further true place h e = absurd (cc e)
-further false None h e = h refl
-further false (Some n) h e = absurd (cc e)
+abbrev HasOwnersKeys : Property → Type 0
+HasOwnersKeys p = AreOwnersKeys p.owner p.keys
 
--- a name that stands in the list has a place
-has_place : (name : List ℕ) (gs : List (List ℕ)) (n : ℕ) → n < length gs → get_or gs n [] ≡ name → place_of name gs ≢ None
-has_place name [] n lt is e = absurd (omega arith)
-has_place name (g ∷ gs) zero lt is e = taken (bytes_eq g name) _ (subst (λ other. bytes_eq g other ≡ true) is (same_bytes g)) e
-has_place name (g ∷ gs) (suc n) lt is e = further (bytes_eq g name) (place_of name gs) (has_place name gs n (omega arith) is) e
+properties_are : (schema : Schema) (ps : List Property) → list_all is_int_global ps ≡ true → AllByRecursion IsNamed ps → AllByRecursion HasOwnersKeys ps → AllByRecursion (IsProperty schema) ps
+properties_are schema [] ints named owned = tt
+properties_are schema (p ∷ ps) ints named owned =
+    let both = and_parts (is_int_global p) (list_all is_int_global ps) ints in
+    ((named.0.0, owner_is schema p.owner p.cell p.keys both.0 owned.0), properties_are schema ps both.1 named.1 owned.1)
 
-names_differ : (gs : List (List ℕ)) → AllDifferent gs → (a b : ℕ) → a < length gs → b < length gs → get_or gs a [] ≡ get_or gs b [] → a ≡ b
-names_differ [] d a b la lb same = absurd (omega arith)
-names_differ (g ∷ gs) d zero zero la lb same = refl
-names_differ (g ∷ gs) d zero (suc b) la lb same = absurd (has_place g gs b (omega arith) (sym same) d.0)
-names_differ (g ∷ gs) d (suc a) zero la lb same = absurd (has_place g gs a (omega arith) same d.0)
-names_differ (g ∷ gs) d (suc a) (suc b) la lb same = ap suc (names_differ gs d.1 a b (omega arith) (omega arith) same)
+-- a global's owner has no name, and its text is its name
+owner_none : (schema : Schema) (o : Owner) (cell : CellType) → is_int_of o cell ≡ true → owner_name schema o ≡ None
+owner_none schema owner.Global cell is = refl
+owner_none schema (owner.Array name) cell is = absurd (false≢true is)
+owner_none schema (owner.Entity number) cell is = absurd (false≢true is)
 
-global_text : (schema : Schema) (gs : List (List ℕ)) (n : ℕ) → n < length gs → property_of schema (slice_get (map global_property gs) n) ≡ get_or gs n []
-global_text schema [] n lt = absurd (omega arith)
-global_text schema (g ∷ gs) zero lt = refl
-global_text schema (g ∷ gs) (suc n) lt = global_text schema gs n (omega arith)
+owner_silent : (schema : Schema) (o : Owner) (cell : CellType) → is_int_of o cell ≡ true → property_owner_text schema o ≡ []
+owner_silent schema owner.Global cell is = refl
+owner_silent schema (owner.Array name) cell is = absurd (false≢true is)
+owner_silent schema (owner.Entity number) cell is = absurd (false≢true is)
 
-globals_are : (schema : Schema) (gs : List (List ℕ)) → AllByRecursion IsIdentifier gs → All (IsProperty schema) (map global_property gs)
-globals_are schema [] h = All-nil (IsProperty schema)
-globals_are schema (g ∷ gs) h = All-cons (IsProperty schema) (global_property g) (map global_property gs) (h.0.0, refl) (globals_are schema gs h.1)
+-- the global with a number
+record GlobalAt (schema : Schema) (a : ℕ) : Type 0 where
+  property : Property
+  there : property_at schema a ≡ Some property
+  owner : owner_name schema property.owner ≡ None
+  text : property_text schema a ≡ property.name
 
-map_length : (gs : List (List ℕ)) → length (map global_property gs) ≡ length gs
-map_length [] = refl
-map_length (g ∷ gs) = ap suc (map_length gs)
+record Found (ps : List Property) (a : ℕ) : Type 0 where
+  property : Property
+  there : slice_get ps a ≡ Some property
+  is : is_int_global property ≡ true
 
-legible : (f : FirstForm) → IsFirstForm f → Legible (schema_of f) (f.client ∷ [])
-legible f h = record {
-  properties = globals_are (schema_of f) f.globals h.globals.names;
-  entities = All-nil _;
-  clients = All-cons IsName f.client [] h.client.0 (All-nil IsName);
-  properties_differ = λ a b la lb same.
-      let low = subst (λ n. a < n) (map_length f.globals) la in
-      let high = subst (λ n. b < n) (map_length f.globals) lb in
-      names_differ f.globals h.globals.different a b low high (sym (global_text (schema_of f) f.globals a low) ∙ same ∙ global_text (schema_of f) f.globals b high);
-  entities_differ = λ a b la lb same. absurd (omega arith);
-  clients_differ = λ a b la lb same. omega arith;
-}
+found : (ps : List Property) (a : ℕ) → list_all is_int_global ps ≡ true → a < length ps → Found ps a
+found [] a ints below = absurd (omega arith)
+found (p ∷ ps) zero ints below = record { property = p; there = refl; is = (and_parts (is_int_global p) (list_all is_int_global ps) ints).0 }
+found (p ∷ ps) (suc a) ints below =
+    let later : Found ps a = found ps a (and_parts (is_int_global p) (list_all is_int_global ps) ints).1 (omega arith) in
+    record { property = later.property; there = later.there; is = later.is }
+
+global_at : (schema : Schema) (a : ℕ) → list_all is_int_global schema.properties ≡ true → a < length schema.properties → GlobalAt schema a
+global_at schema a ints below =
+    let f : Found schema.properties a = found schema.properties a ints below in
+    record {
+      property = f.property;
+      there = f.there;
+      owner = owner_none schema f.property.owner f.property.cell f.is;
+      text = ap (property_of schema) f.there ∙ ap (λ (o : List ℕ). o ++ f.property.name) (owner_silent schema f.property.owner f.property.cell f.is);
+    }
+
+nothing_in : (entities : List Entity) → has_no_entity entities ≡ true → length entities ≡ 0
+nothing_in [] h = refl
+nothing_in (entity ∷ entities) h = absurd (false≢true h)
+
+legible : (p : Parts) (acts : List FirstAct) → IsProgram p → IsFirst p acts → Legible p.schema p.names
+legible p acts is first =
+    let both = and_parts (has_no_entity p.schema.entities) (list_all is_int_global p.schema.properties) first.schema in
+    let none : length p.schema.entities ≡ 0 = nothing_in p.schema.entities both.0 in
+    let one : length p.names ≡ 1 = sym is.as_many_bodies ∙ ap length first.one in
+    record {
+      properties = All-from_recursion (IsProperty p.schema) p.schema.properties (properties_are p.schema p.schema.properties both.1
+          (recursion_from_All IsNamed p.schema.properties is.told.properties) (recursion_from_All HasOwnersKeys p.schema.properties is.schema.owners_keys));
+      entities = is.told.entities;
+      clients = is.names;
+      properties_differ = λ a b la lb same.
+          let x : GlobalAt p.schema a = global_at p.schema a both.1 la in
+          let y : GlobalAt p.schema b = global_at p.schema b both.1 lb in
+          is.told.properties_differ a b x.property y.property x.there y.there (x.owner ∙ sym y.owner) (sym x.text ∙ same ∙ y.text);
+      entities_differ = λ a b la lb same. absurd (omega (arith, none, la));
+      clients_differ = λ a b la lb same. omega (arith, one, la, lb);
+    }
 
 -- ---- steps
 -- the revisions that a run names, and those that n events may make, are numbers of 32 bits
@@ -96,7 +130,7 @@ record Room (run : Run) (n : ℕ) : Type 0 where
   next : run.next + 2 * n < 2 ^ 32
 
 costs : (act : FirstAct) → 1 ≤ cost act
-costs (Change global operation amount) = omega arith
+costs (Change global operation n) = omega arith
 costs (Print global) = omega arith
 costs Yield = omega arith
 
@@ -105,44 +139,9 @@ begun_few turns [] = omega arith
 begun_few zero (act ∷ acts) = omega arith
 begun_few (suc turns) (act ∷ acts) = omega (arith, begun_few (suc turns - cost act) acts, costs act)
 
-begun_fit : (n turns : ℕ) (acts : List FirstAct) → AllByRecursion (ActFits n) acts → AllByRecursion (ActFits n) (begun turns acts)
-begun_fit n turns [] h = tt
-begun_fit n zero (act ∷ acts) h = tt
-begun_fit n (suc turns) (act ∷ acts) h = (h.0, begun_fit n (suc turns - cost act) acts h.1)
-
 both_parts : {X : Type 0} (P : X → Type 0) (xs ys : List X) → AllByRecursion P xs → AllByRecursion P ys → AllByRecursion P (xs ++ ys)
 both_parts P [] ys p q = q
 both_parts P (x ∷ xs) ys p q = (p.0, both_parts P xs ys p.1 q)
-
-sign_fits : (minus : Bool) (n : ℕ) → n < 2 ^ 63 → FitsSigned w64 (if minus then neg_ℤ (pos n) else pos n)
-sign_fits true zero h = record { sfits = omega arith }
-sign_fits true (suc n) h = record { sfits = omega arith }
-sign_fits false n h = record { sfits = omega arith }
-
-amount_fits : (a : Amount) → a.number < 2 ^ 63 → FitsSigned w64 (amount_value a)
-amount_fits a h = sign_fits a.minus a.number h
-
-global_at : (gs : List (List ℕ)) (g : ℕ) → g < length gs → slice_get (map global_property gs) g ≡ Some (global_property (get_or gs g []))
-global_at [] g lt = absurd (omega arith)
-global_at (name ∷ gs) zero lt = refl
-global_at (name ∷ gs) (suc g) lt = global_at gs g (omega arith)
-
-cell_is : (f : FirstForm) → IsFirstForm f → (g : ℕ) → g < length f.globals → IsCell (schema_of f) g []
-cell_is f h g lt = (omega (arith, h.globals.few), subst (λ found. MatchOption found ⊥ (λ p. AreKeys p.keys [])) (sym (global_at f.globals g lt)) (omega arith, tt))
-
-type_is : (f : FirstForm) (g : ℕ) → g < length f.globals → cell_type (schema_of f) g ≡ IntCell
-type_is f g lt = ap (λ found. option_map_or (λ (p : Property). p.cell) found IntCell) (global_at f.globals g lt)
-
-change_is : (operation : FirstOperation) (a : Amount) → a.number < 2 ^ 63 → IsChange IntCell (change_of operation a)
-change_is Add a h = amount_fits a h
-change_is Set a h = amount_fits a h
-
-update_is : (f : FirstForm) → IsFirstForm f → (g : ℕ) (operation : FirstOperation) (a : Amount) → g < length f.globals → a.number < 2 ^ 63 → IsShaped (schema_of f) (update_of g operation a)
-update_is f h g operation a lt few = (cell_is f h g lt, subst (λ type. IsChange type (change_of operation a)) (sym (type_is f g lt)) (change_is operation a few))
-
-answer_is : (f : FirstForm) (log : List Update) (g : ℕ) → g < length f.globals → answer (schema_of f) log (query_of g) ≡ Int (plain_int (of_cell g [] log))
-unfolding answer plain_value
-answer_is f log g lt = ap (λ type. plain_value type (of_cell g [] log)) (type_is f g lt)
 
 fewer : (received : Option ℕ) (n : ℕ) → IfSome received (λ r. r + 2 * suc n < 2 ^ 32) → IfSome received (λ r. r + 2 * n < 2 ^ 32)
 fewer None n room = tt
@@ -192,22 +191,19 @@ module _ (schema : Schema) (names : List (List ℕ)) (some : 0 < length names) w
   steps_fit run (event.Flush ∷ events) room fit = (omega (arith, room.standing), steps_fit run events (room_left run (length events) room) fit.1)
 
 -- ---- events
-module _ (fits : (changes : List CellChange) → FitsSigned w64 (plain_int changes)) (f : FirstForm) (h : IsFirstForm f) where
-  asked : (log : List Update) (g : ℕ) → g < length f.globals → IsShapedAnswer (schema_of f) (query_of g) (answer (schema_of f) log (query_of g))
-  asked log g lt = subst (λ type. IsValue type (answer (schema_of f) log (query_of g))) (sym (type_is f g lt)) (subst (IsValue IntCell) (sym (answer_is f log g lt)) (fits (of_cell g [] log)))
+module _ (fits : (changes : List CellChange) → FitsSigned w64 (plain_int changes)) (schema : Schema) (ints : HasInts schema) where
+  asked : (log : List Update) (g : ℕ) → IsShapedAnswer schema (query_of g) (answer schema log (query_of g))
+  asked log g = subst (λ type. IsValue type (answer schema log (query_of g))) (sym (ints g)) (subst (IsValue IntCell) (sym (answer_is schema ints log g)) (fits (of_cell g [] log)))
 
-  said : (log : List Update) (g : ℕ) → g < length f.globals → IsSaid (answer (schema_of f) log (query_of g))
-  said log g lt = subst IsSaid (sym (answer_is f log g lt)) (fits (of_cell g [] log))
-
-  events_fit : (log : List Update) (acts : List FirstAct) → AllByRecursion (ActFits (length f.globals)) acts → AllByRecursion (IsShapedEvent (schema_of f)) (events_from (schema_of f) log acts)
-  events_fit log [] fit = tt
-  events_fit log (Change g operation amount ∷ acts) fit = (update_is f h g operation amount fit.0.0 fit.0.1, events_fit (log ++ update_of g operation amount ∷ []) acts fit.1)
-  events_fit log (Print g ∷ acts) fit = ((cell_is f h g fit.0, asked log g fit.0), (said log g fit.0, events_fit log acts fit.1))
-  events_fit log (Yield ∷ acts) fit = (tt, events_fit log acts fit.1)
+  events_answered : (log : List Update) (acts : List FirstAct) → AllByRecursion (IsAnswered schema) (events_from schema log acts)
+  events_answered log [] = tt
+  events_answered log (Change g operation n ∷ acts) = (tt, events_answered (log ++ update_of g operation n ∷ []) acts)
+  events_answered log (Print g ∷ acts) = (asked log g, (tt, events_answered log acts))
+  events_answered log (Yield ∷ acts) = (tt, events_answered log acts)
 
 events_few : (schema : Schema) (log : List Update) (acts : List FirstAct) → length (events_from schema log acts) ≤ 2 * length acts
 events_few schema log [] = omega arith
-events_few schema log (Change g operation amount ∷ acts) = omega (arith, events_few schema (log ++ update_of g operation amount ∷ []) acts)
+events_few schema log (Change g operation n ∷ acts) = omega (arith, events_few schema (log ++ update_of g operation n ∷ []) acts)
 events_few schema log (Print g ∷ acts) = omega (arith, events_few schema log acts)
 events_few schema log (Yield ∷ acts) = omega (arith, events_few schema log acts)
 
@@ -226,12 +222,22 @@ events_tell tells schema names events ends h some shaped few is_end =
     let steps : All (IsStep schema names) (steps_of events) = All-from_recursion (IsStep schema names) (steps_of events) ((omega arith, some), steps_fit schema names some first_run events room (recursion_from_All (IsShapedEvent schema) events shaped)) in
     tells schema names (steps_of events) ends h steps is_end
 
-pub run_tells : ((changes : List CellChange) → FitsSigned w64 (plain_int changes))
+-- the law of what well-kinded bodies do
+abbrev pub ProgramsShaped : Type 0
+ProgramsShaped = (p : Parts) (client : ℕ) (body : List Statement) (answers : List Answer) → IsProgram p → slice_get p.bodies client ≡ Some body → All (IsAnswered p.schema) (trace client body answers).0 → IsShapedTrace p.schema client (trace client body answers)
+
+pub run_tells : ((changes : List CellChange) → FitsSigned w64 (plain_int changes)) → ProgramsShaped
     → ((schema : Schema) (names : List (List ℕ)) (events : List Event) (ends : List End) → Legible schema names → 0 < length names → All (IsShapedEvent schema) events → 2 * length events + 2 < 2 ^ 32 → All IsEnd ends → Told schema names (steps_of events) ends)
-    → (f : FirstForm) → IsFirstForm f → Told (schema_of f) (f.client ∷ []) (steps_of (events_of f)) (end_of f ∷ [])
-run_tells fits tells f h =
-    let acts : List FirstAct = begun budget f.acts in
-    let few : length (begun budget f.acts) ≤ budget = begun_few budget f.acts in
-    let events : length (events_of f) ≤ 2 * length (begun budget f.acts) = events_few (schema_of f) [] acts in
-    let shaped : All (IsShapedEvent (schema_of f)) (events_of f) = All-from_recursion (IsShapedEvent (schema_of f)) (events_of f) (events_fit fits f h [] acts (begun_fit (length f.globals) budget f.acts h.acts)) in
-    tells (schema_of f) (f.client ∷ []) (events_of f) (end_of f ∷ []) (legible f h) (omega arith) shaped (omega arith) (All-cons IsEnd (end_of f) [] (end_fits budget f.acts) (All-nil IsEnd))
+    → (p : Parts) (acts : List FirstAct) → IsProgram p → first_form p ≡ Some acts → Told p.schema p.names (steps_of (events_of p.schema acts)) (end_of acts ∷ [])
+run_tells fits shapes tells p acts is h =
+    let first : IsFirst p acts = opened p acts h in
+    let ints : HasInts p.schema = globals_are_ints p.schema first.schema in
+    let answers : List Answer = answers_in (events_of p.schema acts) in
+    let told : trace 0 first.body (answers_in (events_of p.schema acts)) ≡ (events_of p.schema acts, ended (end_of acts)) = told_is_trace p.schema ints 0 first.body acts first.reads in
+    let answered : All (IsAnswered p.schema) (trace 0 first.body (answers_in (events_of p.schema acts))).0 =
+    subst (λ (t : List Event × Outcome). All (IsAnswered p.schema) t.0) (sym told) (All-from_recursion (IsAnswered p.schema) (events_of p.schema acts) (events_answered fits p.schema ints [] (begun budget acts))) in
+    let there : slice_get p.bodies 0 ≡ Some first.body = ap (λ (bodies : List (List Statement)). slice_get bodies 0) first.one in
+    let shaped : All (IsShapedEvent p.schema) (events_of p.schema acts) = subst (λ (t : List Event × Outcome). All (IsShapedEvent p.schema) t.0) told (shapes p 0 first.body answers is there answered).events in
+    let few : length (begun budget acts) ≤ budget = begun_few budget acts in
+    let events : length (events_of p.schema acts) ≤ 2 * length (begun budget acts) = events_few p.schema [] (begun budget acts) in
+    tells p.schema p.names (events_of p.schema acts) (end_of acts ∷ []) (legible p acts is first) is.some_client shaped (omega arith) (All-cons IsEnd (end_of acts) [] (end_fits budget acts) (All-nil IsEnd))

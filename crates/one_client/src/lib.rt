@@ -4,17 +4,21 @@
 #![tactic(auto)]
 
 ghost use Rattle.std.specs.Prelude.{◌≡◌, ℕ, ◌+◌, ◌*◌, ◌^◌, ◌<◌, List, [], ◌∷◌, length, All};
+ghost use Rattle.std.specs.Prelude.{Some};
 ghost use Rattle.cloud_base.specs.Events.{Outcome, ended, answers_in};
 ghost use Rattle.cloud_base.specs.Shaped.{IsShapedEvent};
 ghost use Rattle.cloud_base.specs.declared.end.End.{End};
 ghost use Rattle.cloud_base.specs.declared.schema.Schema.{Schema};
 ghost use Rattle.cloud_base.specs.declared.update.Answer.{Answer};
 ghost use Rattle.cloud_base.specs.declared.update.Event.{Event};
-ghost use Rattle.first_form.specs.FirstForm.{FirstForm, IsFirstForm};
+ghost use Rattle.first_form.specs.FirstForm.{first_form};
+ghost use Rattle.first_form.specs.declared.form.FirstAct.{FirstAct};
 ghost use Rattle.revision_diagram.specs.Headline.{Headline};
 ghost use Rattle.revision_diagram.specs.Meeting.{below_server};
 ghost use Rattle.step_text.specs.Legible.{Legible, IsEnd, Told};
-ghost use Rattle.one_client.specs.Program.{schema_of, trace, events_of, end_of};
+ghost use Rattle.typed_program.specs.Programs.{IsProgram};
+ghost use Rattle.typed_program.specs.declared.program.Parts.{Parts};
+ghost use Rattle.one_client.specs.Program.{traces, events_of, end_of};
 ghost use Rattle.one_client.specs.Steps.{steps_of, RightEvents, HasNoFlush};
 
 use cloud_base::plain_steps;
@@ -24,6 +28,7 @@ use revision_diagram::{
     story_step,
 };
 use step_text::reports_tell_steps;
+use typed_program::bodies_are_shaped;
 
 /// The steps of the events of one client, which it runs and which are answered right, are a lawful
 /// diagram in which it runs its program.
@@ -51,10 +56,12 @@ pub fn events_are_lawful()
     owners_step();
 }
 
-/// The steps of a program's run are a lawful diagram in which it runs the program.
+/// The steps of the run of a program in the first form are a lawful diagram in which its client runs
+/// its body.
 pub fn runs_are_lawful()
-    ensures { (f : FirstForm) → Headline (schema_of f) below_server (trace f ∷ []) (end_of f ∷ [])
-        (steps_of (events_of f)) }
+    ensures { (p : Parts) (acts : List FirstAct) → first_form p ≡ Some acts
+        → Headline p.schema below_server (traces p) (end_of acts ∷ [])
+        (steps_of (events_of p.schema acts)) }
 {
     events_are_lawful();
 }
@@ -72,9 +79,10 @@ pub fn reports_tell_events()
 
 /// The text of a run's report tells the steps and the end of the run.
 pub fn reports_tell_runs()
-    ensures { (f : FirstForm) → IsFirstForm f
-        → Told (schema_of f) (f.client ∷ []) (steps_of (events_of f)) (end_of f ∷ []) }
+    ensures { (p : Parts) (acts : List FirstAct) → IsProgram p → first_form p ≡ Some acts
+        → Told p.schema p.names (steps_of (events_of p.schema acts)) (end_of acts ∷ []) }
 {
     plain_steps();
+    bodies_are_shaped();
     reports_tell_events();
 }
