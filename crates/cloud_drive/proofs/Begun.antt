@@ -8,8 +8,7 @@ use Rattle.cloud_base.specs.declared.update.Event.{Event}
 use Rattle.cloud_base.specs.declared.update.Update.{Update}
 use Rattle.first_form.specs.declared.form.FirstAct.{FirstAct}
 use Rattle.first_form.specs.declared.form.FirstAct.TheVariants.{Change, Print, Yield}
-use Rattle.first_form.specs.FirstForm.{FirstForm}
-use Rattle.one_client.specs.Program.{schema_of, update_of, cost, begun, end_from, events_from}
+use Rattle.one_client.specs.Program.{HasInts, update_of, cost, begun, end_from, events_from}
 use Rattle.one_client.specs.Steps.{Run, goes_on, steps_from, steps_of}
 use Rattle.revision_diagram.specs.declared.step.Step.{Step}
 use Rattle.std.proofs.lemmas.List.Recursion.{is_count_by}
@@ -22,7 +21,7 @@ begun_out zero (act ∷ acts) h = refl
 begun_out (suc turns) (act ∷ acts) h = absurd (omega arith)
 
 cost_some : (act : FirstAct) → 1 ≤ cost act
-cost_some (Change global operation amount) = omega arith
+cost_some (Change global operation n) = omega arith
 cost_some (Print global) = omega arith
 cost_some Yield = omega arith
 
@@ -53,14 +52,14 @@ some_left n = grind (arith, nat_tests)
 -- the steps of a run are those of its first act and then those of the others
 pub first_act : (schema : Schema) (run : Run) (log : List Update) (act : FirstAct) (acts : List FirstAct)
     → steps_from run (events_from schema log (act ∷ acts)) ≡ act_steps schema run log act (goes_on (events_from schema (log_after log act) acts)) ++ steps_from (after_act run act (goes_on (events_from schema (log_after log act) acts))) (events_from schema (log_after log act) acts)
-first_act schema run log (Change global operation amount) acts = refl
+first_act schema run log (Change global operation n) acts = refl
 first_act schema run log (Print global) acts = refl
 first_act schema run log Yield acts = refl
 
 -- a further yield comes where one is left
 pub goes_on_is : (schema : Schema) (log : List Update) (acts : List FirstAct) → goes_on (events_from schema log acts) ≡ nat_lt 0 (yields_in acts)
 goes_on_is schema log [] = refl
-goes_on_is schema log (Change global operation amount ∷ acts) = goes_on_is schema (log ++ update_of global operation amount ∷ []) acts
+goes_on_is schema log (Change global operation n ∷ acts) = goes_on_is schema (log ++ update_of global operation n ∷ []) acts
 goes_on_is schema log (Print global ∷ acts) = goes_on_is schema log acts
 goes_on_is schema log (Yield ∷ acts) = some_left (yields_in acts)
 
@@ -89,13 +88,13 @@ next_act schema run log act before rest steps now all further e f n h =
     ∙ ap (λ l. steps ++ steps_from run (events_from schema log l)) (sym e) ∙ h
 
 -- it continues after one more act
-pub continues : (player after : Player) (f : FirstForm) (act : FirstAct) (before rest all : List FirstAct) (further : Bool)
-    → before ≡ act ∷ rest → further ≡ nat_lt 0 (yields_in rest) → Acts player after act further → Continues player f before all → Continues after f rest all
-continues player after f act before rest all further e g did h =
-    let d = did f h.run h.log h.follows in
+pub continues : (player after : Player) (schema : Schema) → HasInts schema → (act : FirstAct) (before rest all : List FirstAct) (further : Bool)
+    → before ≡ act ∷ rest → further ≡ nat_lt 0 (yields_in rest) → Acts player after act further → Continues player schema before all → Continues after schema rest all
+continues player after schema ints act before rest all further e g did h =
+    let d = did schema ints h.run h.log h.follows in
     record {
       run = after_act h.run act further;
       log = log_after h.log act;
       follows = d.0;
-      steps = next_act (schema_of f) h.run h.log act before rest player.steps after.steps (steps_of (events_from (schema_of f) [] all)) further e (g ∙ sym (goes_on_is (schema_of f) (log_after h.log act) rest)) d.1 h.steps;
+      steps = next_act schema h.run h.log act before rest player.steps after.steps (steps_of (events_from schema [] all)) further e (g ∙ sym (goes_on_is schema (log_after h.log act) rest)) d.1 h.steps;
     }

@@ -1,21 +1,21 @@
 -- One act of a run, and what the player has where the run is.
-use Rattle.std.specs.Prelude.{◌≡◌, refl, ℕ, zero, suc, ⊤, MatchOption, ◌+◌, if◌then◌else◌, Bool, true, false, List, [], ◌∷◌, ◌++◌, length, Option, Some, None, option_map, IfSome, pos, codes}
+use Rattle.std.specs.Prelude.{◌≡◌, refl, ℕ, ℤ, zero, suc, ⊤, MatchOption, ◌+◌, if◌then◌else◌, Bool, true, false, List, [], ◌∷◌, ◌++◌, length, Option, Some, None, option_map, IfSome, pos, codes}
 use Rattle.std.specs.Int.{int_wrap}
 use Rattle.std.proofs.Common.{subst}
 use Rattle.cloud_base.specs.Answer.{answer}
 use Rattle.cloud_base.specs.Dead.{is_dead}
 use Rattle.cloud_base.specs.PlainCell.{plain_value, plain_int}
+use Rattle.cloud_base.specs.declared.schema.CellType.TheVariants.{Int as IntType}
+use Rattle.cloud_base.specs.declared.schema.Owner.TheVariants.{Global}
 use Rattle.cloud_base.specs.declared.schema.Schema.{Schema}
 use Rattle.cloud_base.specs.declared.update.Answer.TheVariants.{Int}
 use Rattle.cloud_base.specs.declared.update.Update.{Update}
 use Rattle.first_form.specs.declared.form.FirstAct.{FirstAct}
 use Rattle.first_form.specs.declared.form.FirstAct.TheVariants.{Change, Print, Yield}
-use Rattle.first_form.specs.declared.form.Amount.{Amount}
 use Rattle.first_form.specs.declared.form.FirstOperation.TheVariants.{Add}
 use Rattle.revision_diagram.specs.declared.step.Step.{Step}
 use Rattle.revision_diagram.specs.declared.step.Step.TheVariants.{Fork, Join, Do, Ask, Say, Mark}
-use Rattle.first_form.specs.FirstForm.{FirstForm}
-use Rattle.one_client.specs.Program.{global_property, schema_of, update_of, query_of, events_from}
+use Rattle.one_client.specs.Program.{HasInts, update_of, query_of, events_from}
 use Rattle.one_client.specs.Steps.{Run, yield_steps, after_yield, steps_from, steps_of}
 use Rattle.fj_core.specs.declared.int_cell.IntCell.{IntCell}
 use Rattle.fj_core.specs.IntCells.{IntStands}
@@ -24,7 +24,7 @@ use Rattle.cloud_drive.specs.declared.player.Player.{Player}
 use Rattle.cloud_drive.specs.declared.player.Received.{Received}
 
 abbrev pub is_yield_act : FirstAct → Bool
-is_yield_act (Change global operation amount) = false
+is_yield_act (Change global operation n) = false
 is_yield_act (Print global) = false
 is_yield_act Yield = true
 
@@ -35,19 +35,19 @@ yields_in (act ∷ acts) = if is_yield_act act then 1 + yields_in acts else yiel
 
 -- the steps of one act after these updates; the flag says that a further yield comes
 abbrev pub act_steps : Schema → Run → List Update → FirstAct → Bool → List Step
-act_steps schema run log (Change global operation amount) further = Do run.standing (update_of global operation amount) ∷ []
+act_steps schema run log (Change global operation n) further = Do run.standing (update_of global operation n) ∷ []
 act_steps schema run log (Print global) further =
     Ask run.standing (query_of global) (answer schema log (query_of global)) ∷ Say run.standing (answer schema log (query_of global)) ∷ []
 act_steps schema run log Yield further = yield_steps run further
 
 abbrev pub after_act : Run → FirstAct → Bool → Run
-after_act run (Change global operation amount) further = run
+after_act run (Change global operation n) further = run
 after_act run (Print global) further = run
 after_act run Yield further = after_yield run further
 
 -- the updates with that of an act
 abbrev pub log_after : List Update → FirstAct → List Update
-log_after log (Change global operation amount) = log ++ update_of global operation amount ∷ []
+log_after log (Change global operation n) = log ++ update_of global operation n ∷ []
 log_after log (Print global) = log
 log_after log Yield = log
 
@@ -65,27 +65,27 @@ pub record Follows (player : Player) (run : Run) (log : List Update) : Type 0 wh
   pub waiting : IfSome player.received (λ r. CellsStand r.globals pushed [])
 
 -- it follows the run after the act, and has the act's steps behind those that it had
-abbrev pub Did : Player → Player → FirstForm → Run → List Update → FirstAct → Bool → Type 0
-Did player after f run log act further =
-    Follows after (after_act run act further) (log_after log act) × (after.steps ≡ player.steps ++ act_steps (schema_of f) run log act further)
+abbrev pub Did : Player → Player → Schema → Run → List Update → FirstAct → Bool → Type 0
+Did player after schema run log act further =
+    Follows after (after_act run act further) (log_after log act) × (after.steps ≡ player.steps ++ act_steps schema run log act further)
 
--- so where it followed a run of any globals before
+-- so where it followed a run of any integer globals before
 abbrev pub Acts : Player → Player → FirstAct → Bool → Type 0
-Acts player after act further = (f : FirstForm) (run : Run) (log : List Update) → Follows player run log → Did player after f run log act further
+Acts player after act further = (schema : Schema) → HasInts schema → (run : Run) (log : List Update) → Follows player run log → Did player after schema run log act further
 
 -- it follows a run, and its steps with those of the acts that are left are the steps of all
-pub record Continues (player : Player) (f : FirstForm) (left all : List FirstAct) : Type 0 where
+pub record Continues (player : Player) (schema : Schema) (left all : List FirstAct) : Type 0 where
   pub run : Run
   pub log : List Update
   pub follows : Follows player run log
-  pub steps : player.steps ++ steps_from run (events_from (schema_of f) log left) ≡ steps_of (events_from (schema_of f) [] all)
+  pub steps : player.steps ++ steps_from run (events_from schema log left) ≡ steps_of (events_from schema [] all)
 
 module _ where
   abbrev counter : Schema
-  counter = record { properties = global_property (codes "g") ∷ []; entities = [] }
+  counter = record { properties = record { name = codes "g"; owner = Global; cell = IntType; keys = [] } ∷ []; entities = [] }
 
-  abbrev two : Amount
-  two = record { minus = false; number = 2 }
+  abbrev two : ℤ
+  two = pos 2
 
   -- a run that added 2: revision 1 stands, the next number is 4, and what was received is given
   abbrev here : Option ℕ → Run

@@ -16,19 +16,18 @@ ghost use Rattle.cloud_drive.specs.Play.{Follows, Acts};
 
 use crate::player::{Player, Received};
 use cloud_base::{Answer, CellChange, Keys, Memory, Query, Sequence, Update};
-use first_form::{Amount, FirstAct, FirstOperation};
+use first_form::{FirstAct, FirstOperation};
 use fj_core::IntChange;
 use global_cells::{Globals, answers_are_plain};
 use revision_diagram::Step;
 use std::alloc::Global;
 
-fn int_change(operation: FirstOperation, amount: Amount) -> IntChange
-    requires { amount.number < 2 ^ 63 }
-    ensures { of_int result ≡ change_of operation amount }
+fn int_change(operation: FirstOperation, number: i64) -> IntChange
+    ensures { of_int result ≡ change_of operation number }
 {
     match operation {
-        FirstOperation::Add => IntChange::Add(amount.value()),
-        FirstOperation::Set => IntChange::Set(amount.value()),
+        FirstOperation::Add => IntChange::Add(number),
+        FirstOperation::Set => IntChange::Set(number),
     }
 }
 
@@ -69,19 +68,14 @@ impl Player {
         })
     }
 
-    fn change(
-        &mut self,
-        global: u16,
-        operation: FirstOperation,
-        amount: Amount,
-    ) -> Result<(), Memory>
-        requires fits { ActFits (length self.old.current) (FirstAct.Change global operation amount) }
+    fn change(&mut self, global: u16, operation: FirstOperation, number: i64) -> Result<(), Memory>
+        requires { global < length self.old.current }
         ensures run { OnOk result
-            (Acts self.old self.new (FirstAct.Change global operation amount) false) }
+            (Acts self.old self.new (FirstAct.Change global operation number) false) }
         ensures count { OnOk result (length self.new.current ≡ length self.old.current) }
         ensures next { OnOk result (self.new.next ≡ self.old.next) }
     {
-        let change = int_change(operation, amount);
+        let change = int_change(operation, number);
         self.steps
             .push(Step::Do(self.standing, update_of(global, change)))?;
         self.current.update(global, &change);
@@ -204,7 +198,7 @@ impl Player {
         ensures next { OnOk result (self.new.next ≤ self.old.next + 2) }
     {
         match act {
-            FirstAct::Change(global, operation, amount) => self.change(global, operation, amount),
+            FirstAct::Change(global, operation, number) => self.change(global, operation, number),
             FirstAct::Print(global) => self.print(global),
             FirstAct::Yield => self.meet(alloc, further),
         }

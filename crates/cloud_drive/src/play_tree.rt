@@ -1,19 +1,23 @@
 // Playing a program: its steps and its report.
-ghost use Rattle.std.specs.Prelude.{◌≡◌, ◌-◌, ◌≤◌, [], length, if◌then◌else◌, IfOk};
+ghost use Rattle.std.specs.Prelude.{◌≡◌, ◌-◌, ◌≤◌, [], ◌∷◌, length, if◌then◌else◌, IfOk};
+ghost use Rattle.std.specs.Prelude.{Some};
 ghost use Rattle.std.specs.List.{AllByRecursion};
-ghost use Rattle.first_form.specs.FirstForm.{FirstForm, ActFits};
-ghost use Rattle.one_client.specs.Program.{budget, cost, begun, end_of, schema_of, events_from};
+ghost use Rattle.cloud_base.specs.declared.schema.Schema.{Schema};
+ghost use Rattle.typed_program.specs.Trace.{budget};
+ghost use Rattle.first_form.specs.FirstForm.{ActFits, first_form};
+ghost use Rattle.one_client.specs.Program.{HasInts, cost, begun, end_of, events_from};
 ghost use Rattle.one_client.specs.Program.{events_of, report_of};
 ghost use Rattle.one_client.specs.Steps.{steps_of};
 ghost use Rattle.cloud_drive.specs.Play.{is_yield_act, yields_in};
 
 use crate::player::Player;
-use cloud_base::{CellType, End, Memory, Owner, Property, Schema, Sequence};
-use first_form::{FirstAct, FirstProgram};
+use cloud_base::{End, Memory, Name};
+use first_form::FirstAct;
 use revision_diagram::StepList;
 use std::alloc::Global;
 use std::slice;
 use step_text::lines;
+use typed_program::Program;
 
 /// The turns that a client has.
 pub const BUDGET: u32 = 16_384;
@@ -69,31 +73,12 @@ fn left_after(yields: usize, act: FirstAct) -> usize
     }
 }
 
-// Each global is a property with integer cells and no keys.
-fn schema_of(alloc: Global, program: &FirstProgram) -> Result<Schema, Memory>
-    ensures { IfOk result (λ schema. schema ≡ schema_of program.now) }
-{
-    let mut properties = Sequence::new(alloc);
-    for global in program.globals() {
-        properties.push(Property {
-            name: global.copy(alloc)?,
-            owner: Owner::Global,
-            cell: CellType::Int,
-            keys: Sequence::new(alloc),
-        })?;
-    }
-    Ok(Schema {
-        properties,
-        entities: Sequence::new(alloc),
-    })
-}
-
 // The steps of acts over `count` globals.
 fn play_acts(alloc: Global, count: usize, acts: &[FirstAct]) -> Result<StepList, Memory>
     requires few { length acts.now ≤ budget }
     requires fit { AllByRecursion (ActFits count) acts.now }
-    ensures { IfOk result (λ steps. (f : FirstForm)
-        → steps ≡ steps_of (events_from (schema_of f) [] acts.now)) }
+    ensures { IfOk result (λ steps. (schema : Schema) → HasInts schema
+        → steps ≡ steps_of (events_from schema [] acts.now)) }
 {
     let mut player = Player::start(alloc, count)?;
     let mut yields = count_yields(acts);
@@ -104,36 +89,48 @@ fn play_acts(alloc: Global, count: usize, acts: &[FirstAct]) -> Result<StepList,
     Ok(player.steps)
 }
 
-/// The steps of the run of a program.
-#[tactic(auto, using(crate::proofs::Begun::begun_few, crate::proofs::Begun::begun_fit))]
-pub fn steps(alloc: Global, program: &FirstProgram) -> Result<StepList, Memory>
-    ensures { IfOk result (λ steps. steps ≡ steps_of (events_of program.now)) }
+/// The steps of the run of a program in the first form, which has these acts.
+#[tactic(auto, using(crate::proofs::Begun::begun_few))]
+pub fn steps(alloc: Global, program: &Program, acts: &[FirstAct]) -> Result<StepList, Memory>
+    requires { first_form program.now ≡ Some acts.now }
+    ensures { IfOk result (λ steps. steps ≡ steps_of (events_of program.now.schema acts.now)) }
 {
-    play_acts(alloc, program.globals().len(), begun(program.acts()))
+    play_acts(alloc, program.schema().properties.len(), begun(acts))
 }
 
-// How the run of a program ends.
-fn end_of(program: &FirstProgram) -> End
-    ensures { result ≡ end_of program.now }
+// How a run of acts ends.
+fn end_of(acts: &[FirstAct]) -> End
+    ensures { result ≡ end_of acts.now }
 {
-    if begun(program.acts()).len() == program.acts().len() {
+    if begun(acts).len() == acts.len() {
         End::Done
     } else {
         End::Spent
     }
 }
 
-/// The report of the run of a program.
-pub fn play(alloc: Global, program: &FirstProgram) -> Result<Vec<u8>, Memory>
-    ensures { IfOk result (λ text. text.items ≡ report_of program.now) }
+// The name of the one client.
+fn client_name(alloc: Global, program: &Program) -> Result<Name, Memory>
+    requires { length program.now.names ≡ 1 }
+    ensures { IfOk result (λ name. name ∷ [] ≡ program.now.names) }
 {
-    let schema = schema_of(alloc, program)?;
-    let steps = steps(alloc, program)?;
-    let end = end_of(program);
+    let _ = program.schema();
+    Name::new(alloc, program.name(0).as_bytes())
+}
+
+/// The report of the run of a program in the first form, which has these acts.
+pub fn play(alloc: Global, program: &Program, acts: &[FirstAct]) -> Result<Vec<u8>, Memory>
+    requires { first_form program.now ≡ Some acts.now }
+    ensures { IfOk result (λ text. text.items ≡ report_of program.now acts.now) }
+{
+    let schema = program.schema();
+    let name = client_name(alloc, program)?;
+    let steps = steps(alloc, program, acts)?;
+    let end = end_of(acts);
     lines(
         alloc,
-        &schema,
-        slice::from_ref(program.client()),
+        schema,
+        slice::from_ref(&name),
         steps.as_slice(),
         slice::from_ref(&end),
     )

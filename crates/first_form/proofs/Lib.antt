@@ -2,4 +2,4 @@ mod Bodies
 pub mod Opened
 pub mod Read
 mod Turns
-mod Within
+pub mod Within

@@ -1,5 +1,5 @@
 -- The acts of a well-kinded body name globals that are there.
-use Rattle.std.proofs.Common.{◌≡◌, ℕ, ℤ, ◌<◌, List, [], ◌∷◌, length, map, sym, subst, Option, Some, None, option_map}
+use Rattle.std.proofs.Common.{◌≡◌, ℕ, ℤ, ◌<◌, List, [], ◌∷◌, length, map, sym, subst, Option, Some, None, option_map, ap}
 use Rattle.std.specs.Prelude.{slice_get, IfSome, IfOk, Result, Ok, Err, option_and_then}
 use Rattle.std.specs.List.{AllByRecursion}
 use Rattle.std.proofs.lemmas.Option.{slice_get_within}
@@ -17,7 +17,8 @@ use Rattle.typed_program.specs.Programs.{IsProgram}
 use Rattle.typed_program.proofs.Shaped.{all_at}
 use Rattle.first_form.specs.declared.form.FirstAct.{FirstAct}
 use Rattle.first_form.specs.declared.form.FirstAct.TheVariants.{Print}
-use Rattle.first_form.specs.FirstForm.{Simple, simple, global_with, change_of, act_of, acts_of, ActFits}
+use Rattle.first_form.specs.FirstForm.{Simple, simple, global_with, change_of, act_of, acts_of, ActFits, first_form}
+use Rattle.first_form.proofs.Opened.{IsFirst, opened}
 use Rattle.first_form.proofs.Read.{simple_int, simple_text, simple_truth, simple_slot, simple_get, simple_alive, simple_minus, simple_not, simple_binary, simple_and, simple_or, act_store, act_create, act_update, act_delete, act_if, act_if_else, act_while, act_for_all, act_for_entries, act_print, act_yield, act_flush}
 
 -- a global that is read is one of so many
@@ -95,3 +96,9 @@ pub fit_if_ok : (result : Result (Option (List FirstAct)) Memory) (p : Parts) (b
     → IfOk result (λ found. IfSome found (AllByRecursion (ActFits (length p.schema.properties))))
 fit_if_ok (Ok found) p body is there same = subst (λ acts. IfSome acts (AllByRecursion (ActFits (length p.schema.properties)))) (sym same) (body_fits p body is there)
 fit_if_ok (Err e) p body is there same = tt
+
+-- the acts of a program name its globals
+pub acts_within : (p : Parts) (acts : List FirstAct) → IsProgram p → first_form p ≡ Some acts → AllByRecursion (ActFits (length p.schema.properties)) acts
+acts_within p acts is h =
+    let first : IsFirst p acts = opened p acts h in
+    subst (λ found. IfSome found (AllByRecursion (ActFits (length p.schema.properties)))) first.reads (body_fits p first.body is (ap (λ (bodies : List (List Statement)). slice_get bodies 0) first.one))

@@ -38,9 +38,9 @@ use Rattle.revision_diagram.specs.declared.step.Step.{Step}
 use Rattle.revision_diagram.specs.declared.step.Step.TheVariants.{Fork}
 use Rattle.step_text.specs.Cells.{property_of, property_owner_text, property_text}
 use Rattle.step_text.specs.Legible.{Legible, IsProperty, IsOwner, IsStep, IsEnd, Told}
-use Rattle.one_client.specs.Program.{cost, begun, end_from, end_of, query_of, update_of, events_from, events_of}
+use Rattle.one_client.specs.Program.{HasInts, cost, begun, end_from, end_of, query_of, update_of, events_from, events_of}
 use Rattle.one_client.specs.Steps.{Run, first_run, steps_from, steps_of, goes_on, pull, yield_steps, after_yield}
-use Rattle.one_client.proofs.Told.{HasInts, answer_is, told_is_trace}
+use Rattle.one_client.proofs.Told.{answer_is, told_is_trace}
 
 -- ---- names
 owner_is : (schema : Schema) (o : Owner) (cell : CellType) (keys : List KeyType) → is_int_of o cell ≡ true → AreOwnersKeys o keys → IsOwner schema o keys

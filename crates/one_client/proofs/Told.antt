@@ -29,7 +29,7 @@ use Rattle.first_form.specs.declared.form.FirstAct.{FirstAct}
 use Rattle.first_form.specs.declared.form.FirstAct.TheVariants.{Change, Print, Yield}
 use Rattle.first_form.specs.declared.form.FirstOperation.TheVariants.{Add, Set}
 use Rattle.first_form.specs.FirstForm.{Simple, negated, simple_step, simple, act_step, act_of, acts_of, change_of}
-use Rattle.one_client.specs.Program.{update_of, query_of, begun, end_from, end_of, events_from, events_of}
+use Rattle.one_client.specs.Program.{HasInts, update_of, query_of, begun, end_from, end_of, events_from, events_of}
 
 -- ---- expressions
 abbrev number : ℤ → Does Answer
@@ -180,10 +180,6 @@ acts_by s body (Some act) (Some more) acts e rest h =
 acts_are : (body : List Statement) (acts : List FirstAct) → acts_of body ≡ Some acts → ActsAre body acts
 acts_are [] acts h = let same : [] ≡ acts = cc in subst (ActsAre []) same tt
 acts_are (s ∷ body) acts h = acts_by s body (act_of s) (acts_of body) acts refl (acts_are body) h
-
--- each number is that of an integer's cell
-abbrev pub HasInts : Schema → Type 0
-HasInts schema = (g : ℕ) → cell_type schema g ≡ IntCell
 
 pub answer_is : (schema : Schema) → HasInts schema → (log : List Update) (g : ℕ) → answer schema log (query_of g) ≡ Int (plain_int (of_cell g [] log))
 unfolding answer plain_value

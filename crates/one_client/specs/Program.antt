@@ -6,6 +6,7 @@ use Rattle.cloud_base.specs.Answer.{answer}
 use Rattle.cloud_base.specs.Dead.{is_dead}
 use Rattle.cloud_base.specs.Events.{Outcome}
 use Rattle.cloud_base.specs.PlainCell.{plain_value, plain_int}
+use Rattle.cloud_base.specs.Shaped.{cell_type}
 use Rattle.cloud_base.specs.declared.end.End.{End}
 use Rattle.cloud_base.specs.declared.end.End.TheVariants.{Done, Spent}
 use Rattle.cloud_base.specs.declared.schema.CellType.TheVariants.{Int as IntCell}
@@ -40,6 +41,10 @@ update_of global operation n = Cell global [] (change_of operation n)
 
 abbrev pub query_of : ℕ → Query
 query_of global = Get global []
+
+-- each number is that of an integer's cell; a number without a property counts as one
+abbrev pub HasInts : Schema → Type 0
+HasInts schema = (global : ℕ) → cell_type schema global ≡ IntCell
 
 -- the turns that an act takes: a statement takes one, and a query one more
 abbrev pub cost : FirstAct → ℕ

@@ -56,8 +56,8 @@ pub fn events_are_lawful()
     owners_step();
 }
 
-/// The steps of the run of a program in the first form are a lawful diagram in which its client runs
-/// its body.
+/// The steps of the run of a program in the first form are a lawful diagram in which its client
+/// runs its body.
 pub fn runs_are_lawful()
     ensures { (p : Parts) (acts : List FirstAct) → first_form p ≡ Some acts
         → Headline p.schema below_server (traces p) (end_of acts ∷ [])
@@ -66,8 +66,8 @@ pub fn runs_are_lawful()
     events_are_lawful();
 }
 
-/// The text of the steps of events and of ends tells them, where names are told apart and the events
-/// are of the schema's shape.
+/// The text of the steps of events and of ends tells them, where names are told apart and the
+/// events are of the schema's shape.
 pub fn reports_tell_events()
     ensures { (schema : Schema) (names : List (List ℕ)) (events : List Event) (ends : List End)
         → Legible schema names → 0 < length names → All (IsShapedEvent schema) events

@@ -1,5 +1,6 @@
 use Rattle.std.proofs.Common.{◌≡◌, ◌++◌, take, drop}
-use Rattle.one_client.specs.Program.{budget, begun}
+use Rattle.typed_program.specs.Trace.{budget}
+use Rattle.one_client.specs.Program.{begun}
 use Rattle.cloud_drive.proofs.play_tree.begun.Given as goal
 
 -- the acts so far began, and those of the rest that begin follow them

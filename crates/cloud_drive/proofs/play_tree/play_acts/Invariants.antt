@@ -1,6 +1,8 @@
 use Rattle.std.proofs.Common.{◌≡◌, ◌+◌, ◌*◌, ◌≤◌, length, drop}
 use Rattle.std.specs.List.{AllByRecursion}
-use Rattle.first_form.specs.FirstForm.{FirstForm, ActFits}
+use Rattle.first_form.specs.FirstForm.{ActFits}
+use Rattle.cloud_base.specs.declared.schema.Schema.{Schema}
+use Rattle.one_client.specs.Program.{HasInts}
 use Rattle.cloud_drive.specs.Play.{Continues, yields_in}
 use Rattle.cloud_drive.proofs.play_tree.play_acts.Given as goal
 
@@ -11,5 +13,5 @@ invariant-loop-next l = record {
   next : l.player.next ≤ 2 + 2 * l.next-index;
   yields : l.yields ≡ yields_in (drop l.next-index l.acts);
   fit : AllByRecursion (ActFits l.count) (drop l.next-index l.acts);
-  follows : (f : FirstForm) → Continues l.player f (drop l.next-index l.acts) l.acts;
+  follows : (schema : Schema) → HasInts schema → Continues l.player schema (drop l.next-index l.acts) l.acts;
 }

@@ -8,7 +8,7 @@ use Rattle.cloud_drive.proofs.Follow.{four_parts, next_number}
 use Rattle.cloud_drive.proofs.player.Player.meet.Goals as goal
 
 pub returns-clause-run : goal.returns-clause-run
-returns-clause-run c f run log h =
+returns-clause-run c schema ints run log h =
     let before = c.args.self.now in
     let further = c.args.further in
     let pull_made = c.in_ok-pull.ensures in

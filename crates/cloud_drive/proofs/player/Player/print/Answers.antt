@@ -4,21 +4,21 @@ use Rattle.cloud_base.specs.declared.update.Answer.{Answer}
 use Rattle.cloud_base.specs.declared.update.Answer.TheVariants.{Int}
 use Rattle.revision_diagram.specs.declared.step.Step.TheVariants.{Ask, Say}
 use Rattle.fj_core.specs.IntCells.{int_plain}
-use Rattle.one_client.specs.Program.{schema_of, query_of}
+use Rattle.one_client.specs.Program.{query_of}
 use Rattle.global_cells.specs.Cells.{changes_of}
-use Rattle.cloud_drive.proofs.Follow.{two_parts, globals_are_ints}
+use Rattle.cloud_drive.proofs.Follow.{two_parts}
 use Rattle.cloud_drive.proofs.player.Player.print.Goals as goal
 
 pub returns-clause-run : goal.returns-clause-run
-returns-clause-run c f run log h =
+returns-clause-run c schema ints run log h =
     let global = c.args.global in
     let steps = c.args.self.now.steps in
     let value : Answer = Int c.ask-value.result in
     let held : Answer = Int (to_z w64 (of_z w64 c.ask-value.result)) in
     let same : held ≡ value = search rules in
-    let right : value ≡ answer (schema_of f) log (query_of global) =
+    let right : value ≡ answer schema log (query_of global) =
     ap Int (c.ask-value.ensures h.pushed h.since h.current ∙ ap (λ updates. int_plain (changes_of global updates)) (sym h.logs))
-    ∙ sym (c.answers_are_plain.ensures (schema_of f) log global (globals_are_ints f global)) in (
+    ∙ sym (c.answers_are_plain.ensures schema log global (ints global)) in (
       record {
         standing = h.standing;
         received = h.received;
