@@ -1,18 +1,22 @@
 -- What reading a tree and what a call promise, from what their parts did.
-use Rattle.std.proofs.Common.{◌≡◌, ℕ, List, [], ◌∷◌, refl, ap, inl, inr, lit≤}
+use Rattle.std.proofs.Common.{◌≡◌, ℕ, List, [], ◌∷◌, refl, ap, subst, inl, inr, lit≤}
 use Rattle.std.specs.Prelude.{Option, Some, None, Ok, Err}
 use Rattle.cloud_base.specs.Causes.{Rose}
-use Rattle.source_tree.specs.declared.program.Program.{Program}
 use Rattle.cloud_parse.specs.Parse.{ParseAnswers}
 use Rattle.cloud_parse.specs.declared.fault.ParseFault.TheVariants as fault
 use Rattle.cloud_parse.specs.declared.fault.Which.{Which}
 use Rattle.cloud_parse.specs.declared.fault.Which.TheVariants as which
 use Rattle.cloud_parse.specs.declared.parsed.Parsed.{Parsed}
-use Rattle.first_form.specs.FirstForm.{FirstForm, IsFirstForm, first_form}
+use Rattle.typed_program.specs.Programs.{IsProgram}
+use Rattle.typed_program.specs.declared.program.Parts.{Parts}
+use Rattle.kind_bodies.specs.declared.fault.KindFault.TheVariants as kind
+use Rattle.kind_check.specs.KindAnswers.{KindAnswers}
+use Rattle.first_form.specs.FirstForm.{first_form}
+use Rattle.first_form.specs.declared.form.FirstAct.{FirstAct}
 use Rattle.revision_diagram.specs.Headline.{Headline}
 use Rattle.revision_diagram.specs.Meeting.{below_server}
 use Rattle.step_text.specs.Legible.{Told}
-use Rattle.one_client.specs.Program.{schema_of, trace, events_of, end_of, report_of}
+use Rattle.one_client.specs.Program.{traces, events_of, end_of, report_of}
 use Rattle.one_client.specs.Steps.{steps_of}
 use Rattle.cloud_run.specs.declared.command.Command.{Command}
 use Rattle.cloud_run.specs.declared.command.Command.TheVariants.{Check, Play}
@@ -21,35 +25,33 @@ use Rattle.cloud_run.specs.declared.status.Status.{Status}
 use Rattle.cloud_run.specs.declared.status.Status.TheVariants as status
 use Rattle.cloud_run.specs.Flows.{HandedOut, Got, GotPart, ReadsAll, most_read}
 use Rattle.cloud_run.specs.Runs.{ReadsTree, Runs}
-use Rattle.cloud_run.specs.Top.{LeftParsed, ReportsRun, IsLawfulText, WritesLawful, text_of}
-use Rattle.cloud_run.proofs.Judged.{OneAnswer, TokensFit, reads, left_parsed, left_done, left_form, left_limit, left_syntax, limit_ended, judges_read_fault, judges_memory, judges_write_fault, writes_nothing, not_done, not_words, not_write_fault, form_refused, refused_accepted}
+use Rattle.cloud_run.specs.Top.{KeepsKinds, LeftTyped, ReportsRun, IsLawfulText, WritesLawful, text_of}
+use Rattle.cloud_run.proofs.Judged.{OneAnswer, TokensFit, reads, left_parsed, left_done, left_form, left_kind, left_limit, left_syntax, limit_ended, judges_read_fault, judges_memory, judges_write_fault, writes_nothing, not_done, not_words, not_write_fault, form_refused, kind_refused, refused_accepted}
 
 -- where nothing was read all is left
 pub handed_nothing : (left : Option (List ℕ)) → HandedOut most_read left left
 handed_nothing None = refl
 handed_nothing (Some bytes) = (0, lit≤ tt, refl)
 
--- the laws of runs, as the programs of one client have them
+-- the laws of runs of programs in the first form
 abbrev pub RunsLawful : Type 0
-RunsLawful = (f : FirstForm) → Headline (schema_of f) below_server (trace f ∷ []) (end_of f ∷ []) (steps_of (events_of f))
+RunsLawful = (p : Parts) (acts : List FirstAct) → first_form p ≡ Some acts → Headline p.schema below_server (traces p) (end_of acts ∷ []) (steps_of (events_of p.schema acts))
 
 abbrev pub RunsTold : Type 0
-RunsTold = (f : FirstForm) → IsFirstForm f → Told (schema_of f) (f.client ∷ []) (steps_of (events_of f)) (end_of f ∷ [])
+RunsTold = (p : Parts) (acts : List FirstAct) → IsProgram p → first_form p ≡ Some acts → Told p.schema p.names (steps_of (events_of p.schema acts)) (end_of acts ∷ [])
 
 -- the report of a program's run is lawful
-pub reports_run : (p : Program) (f : FirstForm) (text : List ℕ) → RunsLawful → RunsTold → first_form p ≡ Some f → IsFirstForm f → text ≡ report_of f → ReportsRun p text
-reports_run p f text headline told first is report = record {
-  form = f;
-  steps = steps_of (events_of f);
-  end = end_of f;
-  first = first;
-  lawful = headline f;
+pub reports_run : (p q : Parts) (acts : List FirstAct) (text : List ℕ) → RunsLawful → RunsTold → p ≡ q → IsProgram p → first_form p ≡ Some acts → text ≡ report_of p acts → ReportsRun q text
+reports_run p q acts text headline told same is first report = subst (λ (r : Parts). ReportsRun r text) same (record {
+  steps = steps_of (events_of p.schema acts);
+  ends = end_of acts ∷ [];
+  lawful = headline p acts first;
   report = report;
-  told = told f is;
-}
+  told = told p acts is first;
+})
 
 -- what was made lawfully is written lawfully
-pub writes_lawful : (command : Command) (left held now : Option (List ℕ)) (parsed : Parsed) (text : List ℕ) → LeftParsed left parsed → IsLawfulText command parsed.tree text → Got held now text → WritesLawful (Some command) left held now
+pub writes_lawful : (command : Command) (left held now : Option (List ℕ)) (parsed : Parsed) (text : List ℕ) → LeftTyped left parsed → IsLawfulText command parsed text → Got held now text → WritesLawful (Some command) left held now
 writes_lawful Check left held now parsed text said lawful got = (parsed, text, said, lawful, got)
 writes_lawful Play left held now parsed text said lawful got = (parsed, text, said, lawful, got)
 
@@ -197,56 +199,74 @@ module _ {S K : Type 0} (left : S → Option (List ℕ)) (faults ends : S → �
       }
 
       -- a program that the command doesn't take
-      pub not_in_form : (sink : K) → OneAnswer → text_of command parsed.tree ≡ None → Runs left faults ends holds sink_faults (Some command) (status.Limit which.Form) source source' sink sink
-      not_in_form sink one none = record {
+      pub not_in_form : (sink : K) → OneAnswer → KeepsKinds parsed → text_of command parsed ≡ None → Runs left faults ends holds sink_faults (Some command) (status.Limit which.Form) source source' sink sink
+      not_in_form sink one keeps none = record {
         words = (λ is. cc, λ none. cc);
         unread = λ is. cc;
         read_fault = λ is. cc;
         no_read_fault = λ no. r.no_read_fault (λ is. cc);
         write_fault = λ is. cc;
         no_write_fault = λ no. refl;
-        judged = left_form command (left source) parsed r.tree none;
+        judged = left_form command (left source) parsed r.tree keeps none;
         ended = r.seen;
         handed = r.handed;
         written = refl;
         silent = λ not_done not_fault. refl;
         lawful = λ is. cc;
-        complete = λ accepted no_fault no_sink_fault. absurd (form_refused one command (left source) (left_form command (left source) parsed r.tree none) accepted);
+        complete = λ accepted no_fault no_sink_fault. absurd (form_refused one command (left source) (left_form command (left source) parsed r.tree keeps none) accepted);
+      }
+
+      -- a source that breaks a rule of kinds
+      pub breaks_rule : (rule line : ℕ) (sink : K) → OneAnswer → KindAnswers parsed (Err (kind.Rule rule line)) → Runs left faults ends holds sink_faults (Some command) (status.Kind rule line) source source' sink sink
+      breaks_rule rule line sink one told = record {
+        words = (λ is. cc, λ none. cc);
+        unread = λ is. cc;
+        read_fault = λ is. cc;
+        no_read_fault = λ no. r.no_read_fault (λ is. cc);
+        write_fault = λ is. cc;
+        no_write_fault = λ no. refl;
+        judged = left_kind command rule line (left source) parsed r.tree told;
+        ended = r.seen;
+        handed = r.handed;
+        written = refl;
+        silent = λ not_done not_fault. refl;
+        lawful = λ is. cc;
+        complete = λ accepted no_fault no_sink_fault. absurd (kind_refused one command rule line (left source) (left_kind command rule line (left source) parsed r.tree told) accepted);
       }
 
       -- the sink took the whole text
-      pub written_whole : (text : List ℕ) (sink sink' : K) → text_of command parsed.tree ≡ Some text → IsLawfulText command parsed.tree text → sink_faults sink' ≡ sink_faults sink → Got (holds sink) (holds sink') text
+      pub written_whole : (text : List ℕ) (sink sink' : K) → KeepsKinds parsed → text_of command parsed ≡ Some text → IsLawfulText command parsed text → sink_faults sink' ≡ sink_faults sink → Got (holds sink) (holds sink') text
           → Runs left faults ends holds sink_faults (Some command) status.Done source source' sink sink'
-      written_whole text sink sink' makes lawful stands got = record {
+      written_whole text sink sink' keeps makes lawful stands got = record {
         words = (λ is. cc, λ none. cc);
         unread = λ is. cc;
         read_fault = λ is. cc;
         no_read_fault = λ no. r.no_read_fault (λ is. cc);
         write_fault = λ is. cc;
         no_write_fault = λ no. stands;
-        judged = left_done command (left source) parsed text r.tree makes;
+        judged = left_done command (left source) parsed text r.tree keeps makes;
         ended = r.seen;
         handed = r.handed;
-        written = (parsed, text, r.tree, makes, r.end, got);
+        written = (parsed, text, (r.tree, keeps), makes, r.end, got);
         silent = λ not_done not_fault. absurd (not_done refl);
-        lawful = λ is. writes_lawful command (left source) (holds sink) (holds sink') parsed text r.tree lawful got;
+        lawful = λ is. writes_lawful command (left source) (holds sink) (holds sink') parsed text (r.tree, keeps) lawful got;
         complete = λ accepted no_fault no_sink_fault. inl refl;
       }
 
       -- the sink failed
-      pub written_part : (text : List ℕ) (sink sink' : K) → text_of command parsed.tree ≡ Some text → Rose (sink_faults sink) (sink_faults sink') → GotPart (holds sink) (holds sink') text
+      pub written_part : (text : List ℕ) (sink sink' : K) → KeepsKinds parsed → text_of command parsed ≡ Some text → Rose (sink_faults sink) (sink_faults sink') → GotPart (holds sink) (holds sink') text
           → Runs left faults ends holds sink_faults (Some command) status.WriteFault source source' sink sink'
-      written_part text sink sink' makes rose got = record {
+      written_part text sink sink' keeps makes rose got = record {
         words = (λ is. cc, λ none. cc);
         unread = λ is. cc;
         read_fault = λ is. cc;
         no_read_fault = λ no. r.no_read_fault (λ is. cc);
         write_fault = λ is. rose;
         no_write_fault = λ no. absurd (no refl);
-        judged = judges_write_fault command (left source) (left_done command (left source) parsed text r.tree makes);
+        judged = judges_write_fault command (left source) (left_done command (left source) parsed text r.tree keeps makes);
         ended = r.seen;
         handed = r.handed;
-        written = (parsed, text, r.tree, makes, r.end, got);
+        written = (parsed, text, (r.tree, keeps), makes, r.end, got);
         silent = λ not_done not_fault. absurd (not_fault refl);
         lawful = λ is. cc;
         complete = λ accepted no_fault no_sink_fault. absurd (no_sink_fault rose);

@@ -18,7 +18,11 @@ use Rattle.cloud_run.specs.declared.status.Status.TheVariants as status
 use Rattle.cloud_run.specs.Commands.{reads_source}
 use Rattle.cloud_run.specs.Flows.{Parts, AtEnd}
 use Rattle.cloud_run.specs.Runs.{IsReadRefusal}
-use Rattle.cloud_run.specs.Top.{text_of, Accepts, Judges, JudgesLeft, EndSeen, LeftParsed, Writes, Accepted}
+use Rattle.kind_bodies.specs.declared.fault.KindFault.TheVariants as kind
+use Rattle.kind_rules.specs.Answers.{first_fault}
+use Rattle.kind_rules.specs.Programs.{items_of}
+use Rattle.kind_check.specs.KindAnswers.{KindAnswers}
+use Rattle.cloud_run.specs.Top.{KeepsKinds, text_of, Accepts, Judges, JudgesLeft, EndSeen, LeftParsed, Writes, Accepted}
 
 -- the law of parsing: two answers of a text other than want of memory are one
 abbrev pub OneAnswer : Type 0
@@ -48,14 +52,19 @@ left_parsed fit (Some bytes) None taken parsed p e said = absurd p
 left_parsed fit (Some bytes) (Some rest) taken parsed p e said = subst (λ text. ParseAnswers text (Ok parsed)) (whole bytes taken rest p e) said
 
 -- what is parsed and taken by a command is accepted
-pub left_done : (command : Command) (left : Option (List ℕ)) (parsed : Parsed) (text : List ℕ) → LeftParsed left parsed → text_of command parsed.tree ≡ Some text → JudgesLeft (Some command) status.Done left
-left_done command None parsed text said makes = tt
-left_done command (Some bytes) parsed text said makes = (parsed, said, λ none. cc)
+pub left_done : (command : Command) (left : Option (List ℕ)) (parsed : Parsed) (text : List ℕ) → LeftParsed left parsed → KeepsKinds parsed → text_of command parsed ≡ Some text → JudgesLeft (Some command) status.Done left
+left_done command None parsed text said keeps makes = tt
+left_done command (Some bytes) parsed text said keeps makes = (parsed, said, keeps, λ none. cc)
 
 -- what is parsed and not taken by a command isn't in the first form
-pub left_form : (command : Command) (left : Option (List ℕ)) (parsed : Parsed) → LeftParsed left parsed → text_of command parsed.tree ≡ None → JudgesLeft (Some command) (status.Limit which.Form) left
-left_form command None parsed said none = tt
-left_form command (Some bytes) parsed said none = (parsed, said, none)
+pub left_form : (command : Command) (left : Option (List ℕ)) (parsed : Parsed) → LeftParsed left parsed → KeepsKinds parsed → text_of command parsed ≡ None → JudgesLeft (Some command) (status.Limit which.Form) left
+left_form command None parsed said keeps none = tt
+left_form command (Some bytes) parsed said keeps none = (parsed, said, keeps, none)
+
+-- what is parsed and breaks a rule of kinds
+pub left_kind : (command : Command) (rule line : ℕ) (left : Option (List ℕ)) (parsed : Parsed) → LeftParsed left parsed → KindAnswers parsed (Err (kind.Rule rule line)) → JudgesLeft (Some command) (status.Kind rule line) left
+left_kind command rule line None parsed said told = tt
+left_kind command rule line (Some bytes) parsed said told = (parsed, said, told)
 
 -- what breaks another limit than the length isn't too long
 few : (w : Which) (text : List ℕ) → TellsLimit w text → (w ≡ which.Bytes) ⊎ (length text ≤ most_source_bytes)
@@ -83,7 +92,7 @@ limit_judged command which.Form text said = absurd said
 
 -- and the other way round, but for the first form
 judged_limit : (command : Command) (w : Which) (text : List ℕ) → Judges command (status.Limit w) text
-    → ParseAnswers text (Err (fault.Limit w)) ⊎ ((parsed : Parsed) × ParseAnswers text (Ok parsed) × (text_of command parsed.tree ≡ None))
+    → ParseAnswers text (Err (fault.Limit w)) ⊎ ((parsed : Parsed) × ParseAnswers text (Ok parsed) × KeepsKinds parsed × (text_of command parsed ≡ None))
 judged_limit command which.Bytes text said = inl said
 judged_limit command which.Brackets text said = inl said
 judged_limit command which.Number text said = inl said
@@ -148,6 +157,7 @@ writes_nothing command status.Words left after held r = absurd r
 writes_nothing command status.ReadFault left after held r = refl
 writes_nothing command status.WriteFault left after held r = absurd r
 writes_nothing command (status.Syntax line column) left after held r = refl
+writes_nothing command (status.Kind rule line) left after held r = absurd r
 writes_nothing command (status.Limit w) left after held r = refl
 writes_nothing command status.Memory left after held r = refl
 
@@ -168,15 +178,24 @@ abbrev refuses : ParseFault → Result Parsed ParseFault
 refuses f = Err f
 
 -- what a command doesn't take it doesn't accept
-not_taken : OneAnswer → (command : Command) (text : List ℕ) → Accepts command text → ((parsed : Parsed) × ParseAnswers text (Ok parsed) × (text_of command parsed.tree ≡ None)) → ⊥
-not_taken one command text (parsed, said, takes) (other, told, none) =
+not_taken : OneAnswer → (command : Command) (text : List ℕ) → Accepts command text → ((parsed : Parsed) × ParseAnswers text (Ok parsed) × KeepsKinds parsed × (text_of command parsed ≡ None)) → ⊥
+not_taken one command text (parsed, said, keeps, takes) (other, told, kept, none) =
     let same : answers other ≡ answers parsed = one text (answers other) (answers parsed) told said (λ e. cc) (λ e. cc) in
     let is : other ≡ parsed = cc same in
-    takes (subst (λ (p : Parsed). text_of command p.tree ≡ None) is none)
+    takes (subst (λ (p : Parsed). text_of command p ≡ None) is none)
+
+-- a source that breaks a rule of kinds isn't accepted
+pub kind_refused : OneAnswer → (command : Command) (rule line : ℕ) (left : Option (List ℕ)) → JudgesLeft (Some command) (status.Kind rule line) left → Accepted (Some command) left → ⊥
+kind_refused one command rule line None j a = a
+kind_refused one command rule line (Some text) (other, told, breaks) (parsed, said, keeps, takes) =
+    let same : answers other ≡ answers parsed = one text (answers other) (answers parsed) told said (λ e. cc) (λ e. cc) in
+    let is : other ≡ parsed = cc same in
+    let none : None ≡ Some (record { rule = rule; line = line }) = sym keeps ∙ subst (λ (p : Parsed). first_fault (items_of p.tree p.lines) ≡ Some (record { rule = rule; line = line })) is breaks in
+    absurd (cc none)
 
 -- what breaks a limit, or has no program, isn't accepted
 not_told : OneAnswer → (command : Command) (text : List ℕ) (f : ParseFault) → Accepts command text → ParseAnswers text (Err f) → f ≢ fault.Memory → ⊥
-not_told one command text f (parsed, said, takes) told differs =
+not_told one command text f (parsed, said, keeps, takes) told differs =
     let same : answers parsed ≡ refuses f = one text (answers parsed) (refuses f) said told (λ e. cc) (λ e. differs cc) in
     cc same
 
@@ -200,5 +219,6 @@ refused_accepted one command status.Words (Some text) r j a n = absurd r
 refused_accepted one command status.ReadFault (Some text) r j a n = absurd (n refl)
 refused_accepted one command status.WriteFault (Some text) r j a n = absurd r
 refused_accepted one command (status.Syntax line column) (Some text) r j a n = absurd (not_told one command text (fault.Syntax line column) a j (λ e. cc))
+refused_accepted one command (status.Kind rule line) (Some text) r j a n = absurd r
 refused_accepted one command (status.Limit w) (Some text) r j a n = absurd (limit_refused one command w text j a)
 refused_accepted one command status.Memory (Some text) r j a n = inr refl

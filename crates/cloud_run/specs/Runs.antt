@@ -4,16 +4,17 @@ use Rattle.cloud_base.specs.Causes.{Rose}
 use Rattle.cloud_parse.specs.declared.parsed.Parsed.{Parsed}
 use Rattle.cloud_run.specs.declared.command.Command.{Command}
 use Rattle.cloud_run.specs.declared.status.Status.{Status}
-use Rattle.cloud_run.specs.declared.status.Status.TheVariants.{Done, Words, ReadFault, WriteFault, Memory}
+use Rattle.cloud_run.specs.declared.status.Status.TheVariants.{Done, Words, ReadFault, WriteFault, Kind, Memory}
 use Rattle.cloud_run.specs.Commands.{reads_source}
 use Rattle.cloud_run.specs.Flows.{most_read, HandedOut, AtEnd}
 use Rattle.cloud_run.specs.Top.{JudgesLeft, EndSeen, LeftParsed, Writes, WritesLawful, Accepted}
 
--- a refusal that comes before anything is written, but for the words
+-- a refusal of reading or parsing
 abbrev pub IsReadRefusal : Status → Type 0
 IsReadRefusal Done = ⊥
 IsReadRefusal Words = ⊥
 IsReadRefusal WriteFault = ⊥
+IsReadRefusal (Kind rule line) = ⊥
 IsReadRefusal s = ⊤
 
 -- What reading the tree of a source did, by its answer. `left` is what the source tells that it has left, and it counts

@@ -12,6 +12,7 @@ status_number status.Words = 1
 status_number status.ReadFault = 2
 status_number status.WriteFault = 3
 status_number (status.Syntax line column) = 4
+status_number (status.Kind rule line) = 5
 status_number (status.Limit w) = 6
 status_number status.Memory = 7
 
@@ -32,6 +33,7 @@ status_line status.Words = codes "words"
 status_line status.ReadFault = codes "read fault"
 status_line status.WriteFault = codes "write fault"
 status_line (status.Syntax line column) = codes "syntax " ++ decimal line ++ codes " " ++ decimal column
+status_line (status.Kind rule line) = codes "kind " ++ decimal rule ++ codes " " ++ decimal line
 status_line (status.Limit w) = codes "limit " ++ limit_name w
 status_line status.Memory = codes "memory"
 
@@ -43,6 +45,11 @@ example_limit = (refl, refl, refl)
 pub example_syntax : (status_number (status.Syntax 3 8) ≡ 4) × (status_line (status.Syntax 3 18) ≡ codes "syntax 3 18")
 unfolding digits
 example_syntax = (refl, refl)
+
+-- a source that breaks a rule of kinds says which, and in which line
+pub example_kind : (status_number (status.Kind 7 12) ≡ 5) × (status_line (status.Kind 10 2) ≡ codes "kind 10 2")
+unfolding digits
+example_kind = (refl, refl)
 
 -- a command that did all says nothing
 pub example_done : (status_number status.Done ≡ 0) × (status_line status.Done ≡ [])

@@ -1,5 +1,5 @@
 -- What a command reads and writes, by its status.
-use Rattle.std.specs.Prelude.{◌≡◌, ◌≢◌, refl, ℕ, ◌≤◌, ⊤, List, [], ◌∷◌, length, Option, Some, None, option_map, Ok, Err, codes}
+use Rattle.std.specs.Prelude.{◌≡◌, ◌≢◌, refl, ℕ, ◌≤◌, ⊤, List, [], ◌∷◌, length, Option, Some, None, option_map, if◌then◌else◌, Ok, Err, codes}
 use Rattle.std.proofs.Common.{lit≤, not-suc-le-zero}
 use Rattle.cloud_base.specs.Causes.{Rose}
 use Rattle.cloud_base.specs.declared.end.End.{End}
@@ -17,39 +17,56 @@ use Rattle.cloud_parse.specs.declared.fault.Which.TheVariants as which
 use Rattle.cloud_parse.specs.declared.parsed.Parsed.{Parsed}
 use Rattle.source_print.specs.Canonical.{canonical}
 use Rattle.print_parses.specs.Parsing.{ParsesTo}
-use Rattle.first_form.specs.FirstForm.{FirstForm, first_form}
+use Rattle.typed_program.specs.declared.program.Parts.{Parts}
+use Rattle.kind_bodies.specs.declared.fault.KindFault.TheVariants as kind
+use Rattle.kind_rules.specs.Answers.{first_fault}
+use Rattle.kind_rules.specs.Programs.{items_of, typed}
+use Rattle.kind_check.specs.KindAnswers.{KindAnswers}
+use Rattle.first_form.specs.Bare.{is_bare}
+use Rattle.first_form.specs.FirstForm.{first_form}
 use Rattle.revision_diagram.specs.declared.step.Step.{Step}
 use Rattle.step_text.specs.Legible.{Told}
 use Rattle.step_text.specs.Text.{report_text}
 use Rattle.revision_diagram.specs.Headline.{Headline}
 use Rattle.revision_diagram.specs.Meeting.{below_server}
-use Rattle.one_client.specs.Program.{schema_of, trace, report_of}
+use Rattle.one_client.specs.Program.{traces, report_of}
 use Rattle.cloud_run.specs.declared.command.Command.{Command}
 use Rattle.cloud_run.specs.declared.command.Command.TheVariants.{Check, Play}
 use Rattle.cloud_run.specs.declared.status.Status.{Status}
 use Rattle.cloud_run.specs.declared.status.Status.TheVariants as status
 use Rattle.cloud_run.specs.Flows.{AtEnd, Got, GotPart}
 
--- The text that a command makes of a program, if it takes the program. `check` makes the canonical text of every one, and
--- `play` the report of one that is in the first form.
-abbrev pub text_of : Command → Program → Option (List ℕ)
-text_of Check p = Some (canonical p)
-text_of Play p = option_map report_of (first_form p)
+-- the typed program of a parsed source
+abbrev pub program_of : Parsed → Parts
+program_of source = typed source.tree source.lines
 
--- what a command asks of a source: that parsing answers a tree, which the command takes
+-- no rule of kinds fails in a parsed source
+abbrev pub KeepsKinds : Parsed → Type 0
+KeepsKinds source = first_fault (items_of source.tree source.lines) ≡ None
+
+-- The text that a command makes of a parsed source that keeps the rules of kinds, if it takes the source. `check` makes the
+-- canonical text of every one, and `play` the report of one that has globals and clients alone and whose typed program is
+-- in the first form.
+abbrev pub text_of : Command → Parsed → Option (List ℕ)
+text_of Check source = Some (canonical source.tree)
+text_of Play source = if is_bare source.tree then option_map (report_of (program_of source)) (first_form (program_of source)) else None
+
+-- what a command asks of a source: that parsing answers a tree, which keeps the rules of kinds and which the command takes
 abbrev pub Accepts : Command → List ℕ → Type 0
-Accepts command text = (parsed : Parsed) × ParseAnswers text (Ok parsed) × (text_of command parsed.tree ≢ None)
+Accepts command text = (parsed : Parsed) × ParseAnswers text (Ok parsed) × KeepsKinds parsed × (text_of command parsed ≢ None)
 
 -- What each status says of the whole text that the source had left. With success and with a write fault the command
--- accepts it; a place of a syntax fault and a limit are what parsing answers; and the limit of the first form comes
--- where parsing answers a tree that the command doesn't take.
+-- accepts it; a place of a syntax fault and a limit are what parsing answers; a rule of kinds is the first that fails in the
+-- tree that parsing answers; and the limit of the first form comes where that tree keeps the rules and the command doesn't
+-- take it.
 abbrev pub Judges : Command → Status → List ℕ → Type 0
 Judges command status.Done text = Accepts command text
 Judges command status.Words text = ⊤
 Judges command status.ReadFault text = ⊤
 Judges command status.WriteFault text = Accepts command text
 Judges command (status.Syntax line column) text = ParseAnswers text (Err (fault.Syntax line column))
-Judges command (status.Limit which.Form) text = (parsed : Parsed) × ParseAnswers text (Ok parsed) × (text_of command parsed.tree ≡ None)
+Judges command (status.Kind rule line) text = (parsed : Parsed) × ParseAnswers text (Ok parsed) × KindAnswers parsed (Err (kind.Rule rule line))
+Judges command (status.Limit which.Form) text = (parsed : Parsed) × ParseAnswers text (Ok parsed) × KeepsKinds parsed × (text_of command parsed ≡ None)
 Judges command (status.Limit w) text = ParseAnswers text (Err (fault.Limit w))
 Judges command status.Memory text = ⊤
 
@@ -73,40 +90,41 @@ abbrev pub LeftParsed : Option (List ℕ) → Parsed → Type 0
 LeftParsed None parsed = IsTree parsed.tree
 LeftParsed (Some text) parsed = ParseAnswers text (Ok parsed)
 
+-- and that is a source that keeps the rules of kinds
+abbrev pub LeftTyped : Option (List ℕ) → Parsed → Type 0
+LeftTyped left parsed = LeftParsed left parsed × KeepsKinds parsed
+
 -- What was written: the whole text that the command makes of the source, or a prefix of it that isn't the whole; of the
 -- source nothing is left unread then. With every other status the sink holds what it held.
 abbrev pub Writes : Option Command → Status → Option (List ℕ) → Option (List ℕ) → Option (List ℕ) → Option (List ℕ) → Type 0
 Writes None s left after held now = now ≡ held
-Writes (Some command) status.Done left after held now = (parsed : Parsed) × (text : List ℕ) × LeftParsed left parsed × (text_of command parsed.tree ≡ Some text) × AtEnd after × Got held now text
-Writes (Some command) status.WriteFault left after held now = (parsed : Parsed) × (text : List ℕ) × LeftParsed left parsed × (text_of command parsed.tree ≡ Some text) × AtEnd after × GotPart held now text
+Writes (Some command) status.Done left after held now = (parsed : Parsed) × (text : List ℕ) × LeftTyped left parsed × (text_of command parsed ≡ Some text) × AtEnd after × Got held now text
+Writes (Some command) status.WriteFault left after held now = (parsed : Parsed) × (text : List ℕ) × LeftTyped left parsed × (text_of command parsed ≡ Some text) × AtEnd after × GotPart held now text
 Writes (Some command) s left after held now = now ≡ held
 
--- The text is that of a lawful diagram of the program: the client runs that program up to its end, and each of its
--- queries is answered as its updates make it. The text tells the steps and the end: no others of the schema's shape
--- have it.
-pub record ReportsRun (p : Program) (text : List ℕ) : Type 0 where
-  pub form : FirstForm
+-- The text is that of a lawful diagram of the program: each client runs its body up to its end, and each of its queries is
+-- answered as its updates make it. The text tells the steps and the ends: no others of the schema's shape have it.
+pub record ReportsRun (p : Parts) (text : List ℕ) : Type 0 where
   pub steps : List Step
-  pub end : End
-  pub first : first_form p ≡ Some form
-  pub lawful : Headline (schema_of form) below_server (trace form ∷ []) (end ∷ []) steps
-  pub report : text ≡ report_text (schema_of form) (form.client ∷ []) steps (end ∷ [])
-  pub told : Told (schema_of form) (form.client ∷ []) steps (end ∷ [])
+  pub ends : List End
+  pub lawful : Headline p.schema below_server (traces p) ends steps
+  pub report : text ≡ report_text p.schema p.names steps ends
+  pub told : Told p.schema p.names steps ends
 
 -- the text is a source of the program, if it isn't too long to be one
 abbrev pub ParsesAgain : Program → List ℕ → Type 0
 ParsesAgain p text = length text ≤ most_source_bytes → ParsesTo text p
 
 -- what is known of a text that a command made
-abbrev pub IsLawfulText : Command → Program → List ℕ → Type 0
-IsLawfulText Check p text = ParsesAgain p text
-IsLawfulText Play p text = ReportsRun p text
+abbrev pub IsLawfulText : Command → Parsed → List ℕ → Type 0
+IsLawfulText Check source text = ParsesAgain source.tree text
+IsLawfulText Play source text = ReportsRun (program_of source) text
 
 -- what `check` wrote is parsed to the source's program again, and what `play` wrote reports a run of that
 abbrev pub WritesLawful : Option Command → Option (List ℕ) → Option (List ℕ) → Option (List ℕ) → Type 0
 WritesLawful None left held now = ⊤
-WritesLawful (Some Check) left held now = (parsed : Parsed) × (text : List ℕ) × LeftParsed left parsed × ParsesAgain parsed.tree text × Got held now text
-WritesLawful (Some Play) left held now = (parsed : Parsed) × (text : List ℕ) × LeftParsed left parsed × ReportsRun parsed.tree text × Got held now text
+WritesLawful (Some Check) left held now = (parsed : Parsed) × (text : List ℕ) × LeftTyped left parsed × ParsesAgain parsed.tree text × Got held now text
+WritesLawful (Some Play) left held now = (parsed : Parsed) × (text : List ℕ) × LeftTyped left parsed × ReportsRun (program_of parsed) text × Got held now text
 
 -- there is a command, and the source tells its text, which the command accepts
 abbrev pub Accepted : Option Command → Option (List ℕ) → Type 0
@@ -121,7 +139,7 @@ module _ where
 
   -- the empty text isn't too long, and `check` takes every tree
   pub example_judges : ¬ Judges Play (status.Limit which.Bytes) [] × ((text : List ℕ) → ¬ Judges Check (status.Limit which.Form) text)
-  example_judges = (not-suc-le-zero, λ text (parsed, answers, none). cc)
+  example_judges = (not-suc-le-zero, λ text (parsed, answers, keeps, none). cc)
 
   abbrev idle : List ℕ → Client
   idle name = record { name = name; body = [] }
@@ -143,6 +161,7 @@ module _ where
             record { numbers = tt; texts = tt; height = (lit≤ tt, tt); names = lit≤ tt; clients = lit≤ tt; steps = lit≤ tt },
             refl,
           ),
+          refl,
           λ e. cc,
         ),
         λ h. h,
@@ -150,7 +169,7 @@ module _ where
 
   -- two clients aren't the first form
   pub example_form : Judges Play (status.Limit which.Form) (codes "schema { } client a { } client b { }")
-  unfolding scan_behind lexeme_at reserved words first_form
+  unfolding scan_behind lexeme_at reserved words
   example_form =
       let a = idle (codes "a") in
       let b = idle (codes "b") in (
@@ -161,5 +180,6 @@ module _ where
           record { numbers = tt; texts = tt; height = (lit≤ tt, (lit≤ tt, tt)); names = lit≤ tt; clients = lit≤ tt; steps = lit≤ tt },
           refl,
         ),
+        refl,
         refl,
       )

@@ -7,6 +7,8 @@ mod cases;
 mod command;
 mod flows;
 #[cfg(test)]
+mod kinds;
+#[cfg(test)]
 mod sources;
 mod status;
 #[cfg(test)]

@@ -19,6 +19,8 @@ pub enum Status {
     /// No program has the source text. The place is that of the first token with which no program
     /// can go on.
     Syntax { line: u32, column: u32 },
+    /// The rule of kinds fails at the item of the line, and none before it.
+    Kind { rule: u8, line: u32 },
     /// The source text breaks this limit.
     Limit(Which),
     /// Want of memory.
@@ -36,6 +38,7 @@ impl Status {
             Status::ReadFault => 2,
             Status::WriteFault => 3,
             Status::Syntax { .. } => 4,
+            Status::Kind { .. } => 5,
             Status::Limit(_) => 6,
             Status::Memory => 7,
         }
@@ -68,6 +71,7 @@ impl fmt::Display for Status {
             Status::ReadFault => write!(f, "read fault"),
             Status::WriteFault => write!(f, "write fault"),
             Status::Syntax { line, column } => write!(f, "syntax {line} {column}"),
+            Status::Kind { rule, line } => write!(f, "kind {rule} {line}"),
             Status::Limit(which) => write!(f, "limit {}", limit_name(which)),
             Status::Memory => write!(f, "memory"),
         }

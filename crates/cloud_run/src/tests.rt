@@ -1,6 +1,7 @@
 // Commands over sources and sinks in memory.
 use crate::arguments::given_words;
 use crate::cases::CASES;
+use crate::kinds::{ALONE, KEPT, KEYS, OPERATIONS, OTHERS, SHOP, TAKEN, UNKNOWN};
 use crate::sources::SOURCES;
 use crate::{Command, Status, Words, top, top_plain};
 use cloud_base::{MemSink, MemSource, StdSink, StdSource};
@@ -200,6 +201,36 @@ fn checks_cases(rt: HostRuntime) -> Result<(), Fail> {
             let (_, again) = told(alloc, "check", sink.held())?;
             assert_eq!(rt; again.held(), written.as_bytes(), "at {written}");
         }
+    }
+    Ok(())
+}
+
+// Of both commands, where a rule of kinds is told.
+fn tells_line(rt: &HostRuntime, source: &str, line: &str) -> Result<(), Fail> {
+    let alloc = rt.alloc();
+    let (status, sink) = checked(alloc, source)?;
+    assert_eq!(rt; status.to_string(alloc)?.as_str(), line, "at {source}");
+    if !line.is_empty() {
+        assert_eq!(rt; status.number(), 5, "at {source}");
+        assert!(rt; sink.held().is_empty(), "at {source}");
+        let (status, sink) = played(alloc, source)?;
+        assert_eq!(rt; status.to_string(alloc)?.as_str(), line, "at {source}");
+        assert!(rt; sink.held().is_empty(), "at {source}");
+    }
+    Ok(())
+}
+
+#[test]
+fn tells_kinds(rt: HostRuntime) -> Result<(), Fail> {
+    let alloc = rt.alloc();
+    for rows in [TAKEN, UNKNOWN, KEYS, OPERATIONS, OTHERS, KEPT] {
+        for (clients, line) in rows {
+            let source = around(alloc, SHOP, clients, 1, "")?;
+            tells_line(&rt, source.as_str(), line)?;
+        }
+    }
+    for (source, line) in ALONE {
+        tells_line(&rt, source, line)?;
     }
     Ok(())
 }

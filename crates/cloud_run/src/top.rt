@@ -1,22 +1,24 @@
 // The top call: one command, from the source's bytes to the sink's.
-ghost use Rattle.std.specs.Prelude.{◌≡◌, Some, IfOk, IfSome};
+ghost use Rattle.std.specs.Prelude.{◌≡◌, Some, Err, IfOk, IfErr, IfSome, OnOk};
+ghost use Rattle.kind_check.specs.KindAnswers.{KindAnswers};
 ghost use Rattle.cloud_run.specs.Commands.{command_of};
 ghost use Rattle.cloud_run.specs.Runs.{ReadsTree, Runs};
-ghost use Rattle.cloud_run.specs.Top.{ParsesAgain, ReportsRun, text_of, IsLawfulText};
+ghost use Rattle.cloud_run.specs.Top.{KeepsKinds, ParsesAgain, ReportsRun, text_of};
+ghost use Rattle.cloud_run.specs.Top.{program_of, IsLawfulText};
 
 use crate::command::Command;
 use crate::flows::{ReadError, take_all, write_all};
 use crate::status::Status;
 use crate::words::Words;
-use cloud_base::{Failed, Memory, Sequence, Sink, Source};
+use cloud_base::{Failed, Sequence, Sink, Source};
 use cloud_drive::play;
 use cloud_parse::{ParseFault, Parsed, Which, one_answer, parse};
-use first_form::first_form;
+use first_form::{first_form, is_bare};
+use kind_check::{KindFault, check};
 use one_client::{reports_tell_runs, runs_are_lawful};
 use print_parses::print_parses;
 use source_print::print;
 use source_tokens::scanned_tokens;
-use source_tree::Tree;
 use std::alloc::Global;
 use std::sync::Wait;
 use std::thread::Threads;
@@ -40,41 +42,57 @@ fn read_tree<S: Source>(alloc: Global, source: &mut S) -> Result<Parsed, Status>
     }
 }
 
-// The canonical text of a program.
-fn canonical_text(alloc: Global, tree: &Tree) -> Result<Sequence<u8>, Memory>
-    ensures text { IfOk result (λ text. Some text ≡ text_of Command.Check tree.now) }
-    ensures lawful { IfOk result (ParsesAgain tree.now) }
+// The canonical text of a source.
+fn canonical_text(alloc: Global, source: Parsed) -> Result<Sequence<u8>, KindFault>
+    ensures text { IfOk result (λ text. Some text ≡ text_of Command.Check source) }
+    ensures lawful { IfOk result (ParsesAgain source.tree) }
+    ensures kinds { OnOk result (KeepsKinds source) }
+    ensures fault { IfErr result (λ fault. KindAnswers source (Err fault)) }
 {
-    let _ = tree.program();
+    let _ = source.tree.program();
     print_parses();
-    let text = print(alloc, tree)?;
+    let text = print(alloc, &source.tree)?;
+    check(alloc, source)?;
     Ok(Sequence::from_vec(text))
 }
 
-// The report of a run of a program in the first form.
+// The report of a run of a source's program in the first form.
 #[tactic(auto, using(crate::proofs::Calls::reports_run))]
-fn report(alloc: Global, tree: &Tree) -> Result<Option<Sequence<u8>>, Memory>
-    ensures text { IfOk result (λ text. text ≡ text_of Command.Play tree.now) }
-    ensures lawful { IfOk result (λ text. IfSome text (ReportsRun tree.now)) }
+fn report(alloc: Global, source: Parsed) -> Result<Option<Sequence<u8>>, KindFault>
+    ensures text { IfOk result (λ text. text ≡ text_of Command.Play source) }
+    ensures lawful { IfOk result (λ text. IfSome text (ReportsRun (program_of source))) }
+    ensures kinds { OnOk result (KeepsKinds source) }
+    ensures fault { IfErr result (λ fault. KindAnswers source (Err fault)) }
 {
-    let Some(program) = first_form(alloc, tree.program())? else {
+    let bare = is_bare(source.tree.program());
+    let program = check(alloc, source)?;
+    if !bare {
+        return Ok(None);
+    }
+    let Some(acts) = first_form(alloc, &program)? else {
         return Ok(None);
     };
-    let _ = program.client();
+    let _ = program.schema();
     runs_are_lawful();
     reports_tell_runs();
-    let text = play(alloc, &program)?;
+    let text = play(alloc, &program, acts.as_slice())?;
     Ok(Some(Sequence::from_vec(text)))
 }
 
-// The text that the command makes of a tree, if it takes the tree.
-fn text_of(alloc: Global, command: Command, tree: &Tree) -> Result<Option<Sequence<u8>>, Memory>
-    ensures text { IfOk result (λ text. text ≡ text_of command tree.now) }
-    ensures lawful { IfOk result (λ text. IfSome text (IsLawfulText command tree.now)) }
+// The text that the command makes of a source, if it takes the source.
+fn text_of(
+    alloc: Global,
+    command: Command,
+    source: Parsed,
+) -> Result<Option<Sequence<u8>>, KindFault>
+    ensures text { IfOk result (λ text. text ≡ text_of command source) }
+    ensures lawful { IfOk result (λ text. IfSome text (IsLawfulText command source)) }
+    ensures kinds { OnOk result (KeepsKinds source) }
+    ensures fault { IfErr result (λ fault. KindAnswers source (Err fault)) }
 {
     match command {
-        Command::Check => Ok(Some(canonical_text(alloc, tree)?)),
-        Command::Play => report(alloc, tree),
+        Command::Check => Ok(Some(canonical_text(alloc, source)?)),
+        Command::Play => report(alloc, source),
     }
 }
 
@@ -89,10 +107,11 @@ fn obey<S: Source, K: Sink>(alloc: Global, command: Command, source: &mut S, sin
         Ok(parsed) => parsed,
         Err(status) => return status,
     };
-    let text = match text_of(alloc, command, &parsed.tree) {
+    let text = match text_of(alloc, command, parsed) {
         Ok(Some(text)) => text,
         Ok(None) => return Status::Limit(Which::Form),
-        Err(Memory) => return Status::Memory,
+        Err(KindFault::Rule { rule, line }) => return Status::Kind { rule, line },
+        Err(KindFault::Memory) => return Status::Memory,
     };
     match write_all(&mut *sink, text.as_slice()) {
         Ok(()) => Status::Done,

@@ -1,5 +1,5 @@
 use Rattle.std.proofs.Common.{sym, ◌∙◌}
-use Rattle.cloud_run.proofs.Calls.{refused, not_in_form}
+use Rattle.cloud_run.proofs.Calls.{refused, not_in_form, breaks_rule}
 use Rattle.cloud_run.proofs.top.obey.Goals as goal
 
 pub returns-in-Err : goal.returns-in-Err
@@ -8,4 +8,8 @@ returns-in-Err g c =
 
 pub returns-in-Ok-None : goal.returns-in-Ok-None
 returns-in-Ok-None g c =
-    not_in_form g.S.Source.left g.S.Source.faults g.S.Source.ends g.K.Sink.holds g.K.Sink.faults c.args.command c.args.source.now c.read_tree.new.source _ c.in-Ok.ensures c.args.sink.now c.one_answer.ensures (sym c.in-Ok-None.ensures.text ∙ c.in-Ok-None.field-0-is)
+    not_in_form g.S.Source.left g.S.Source.faults g.S.Source.ends g.K.Sink.holds g.K.Sink.faults c.args.command c.args.source.now c.read_tree.new.source _ c.in-Ok.ensures c.args.sink.now c.one_answer.ensures c.in-Ok-None.ensures.kinds (sym c.in-Ok-None.ensures.text ∙ c.in-Ok-None.field-0-is)
+
+pub returns-in-Err-Rule : goal.returns-in-Err-Rule
+returns-in-Err-Rule g c =
+    breaks_rule g.S.Source.left g.S.Source.faults g.S.Source.ends g.K.Sink.holds g.K.Sink.faults c.args.command c.args.source.now c.read_tree.new.source _ c.in-Ok.ensures c.in-Err-Rule.rule c.in-Err-Rule.line c.args.sink.now c.one_answer.ensures (rw c.in-Err-Rule.field-0-is at c.in-Err-Rule.ensures.fault)
