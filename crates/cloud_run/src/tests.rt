@@ -205,19 +205,17 @@ fn checks_cases(rt: HostRuntime) -> Result<(), Fail> {
     Ok(())
 }
 
-// Of both commands, where a rule of kinds is told.
-fn tells_line(rt: &HostRuntime, source: &str, line: &str) -> Result<(), Fail> {
-    let alloc = rt.alloc();
-    let (status, sink) = checked(alloc, source)?;
-    assert_eq!(rt; status.to_string(alloc)?.as_str(), line, "at {source}");
-    if !line.is_empty() {
-        assert_eq!(rt; status.number(), 5, "at {source}");
-        assert!(rt; sink.held().is_empty(), "at {source}");
-        let (status, sink) = played(alloc, source)?;
-        assert_eq!(rt; status.to_string(alloc)?.as_str(), line, "at {source}");
-        assert!(rt; sink.held().is_empty(), "at {source}");
+// The line of the status of `check`. Where that is a rule of kinds, `play` says the same, and
+// neither writes.
+fn kind_line(alloc: Global, source: &str) -> Result<String, Fail> {
+    let (status, canonical) = checked(alloc, source)?;
+    if let Status::Kind { .. } = status {
+        let (other, report) = played(alloc, source)?;
+        if other != status || !canonical.held().is_empty() || !report.held().is_empty() {
+            return Err(Fail::from("the commands differ, or one writes"));
+        }
     }
-    Ok(())
+    Ok(status.to_string(alloc)?)
 }
 
 #[test]
@@ -226,12 +224,14 @@ fn tells_kinds(rt: HostRuntime) -> Result<(), Fail> {
     for rows in [TAKEN, UNKNOWN, KEYS, OPERATIONS, OTHERS, KEPT] {
         for (clients, line) in rows {
             let source = around(alloc, SHOP, clients, 1, "")?;
-            tells_line(&rt, source.as_str(), line)?;
+            let found = kind_line(alloc, source.as_str())?;
+            assert_eq!(rt; found.as_str(), *line, "at {clients}");
         }
     }
     for (source, line) in ALONE {
-        tells_line(&rt, source, line)?;
+        assert_eq!(rt; kind_line(alloc, source)?.as_str(), *line, "at {source}");
     }
+    assert_eq!(rt; Status::Kind { rule: 1, line: 2 }.number(), 5);
     Ok(())
 }
 
