@@ -1,0 +1,6 @@
+pub mod Arithmetic
+pub mod Ending
+pub mod Finding
+pub mod Needing
+pub mod Popping
+pub mod Stepping
