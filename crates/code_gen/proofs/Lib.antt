@@ -13,3 +13,7 @@ pub mod ValidExpressions
 pub mod ValidStatements
 pub mod ValidBodies
 mod Examples
+pub mod Emits
+pub mod Reaches
+pub mod Blocks
+pub mod Clients

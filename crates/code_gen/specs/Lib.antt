@@ -1,2 +1,5 @@
 pub mod Compile
+pub mod Compiled
+pub mod Listings
 pub mod Meaning
+pub mod Reach
