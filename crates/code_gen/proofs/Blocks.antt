@@ -1,5 +1,5 @@
 -- How the code of statements is emitted.
-use Rattle.std.proofs.Common.{◌≡◌, refl, sym, ap, ◌∙◌, append_assoc, append-nil, drop, get_or, subst, arith}
+use Rattle.std.proofs.Common.{◌≡◌, sym, ap, ◌∙◌, append_assoc, drop, get_or, subst, arith}
 use Rattle.std.proofs.lemmas.List.{length-append, drop_more}
 use Rattle.std.specs.Prelude.{ℕ, suc, ◌+◌, ◌-◌, ◌≤◌, ◌<◌, List, [], ◌∷◌, ◌++◌, length, map, Option, None, Some, slice_set}
 use Rattle.cloud_base.specs.declared.schema.Schema.{Schema}
@@ -9,10 +9,10 @@ use Rattle.typed_program.specs.declared.statement.Statement.{Statement}
 use Rattle.typed_program.specs.declared.statement.Statement.TheVariants as s
 use Rattle.plain_vm.specs.declared.instruction.Instruction.{Instruction}
 use Rattle.plain_vm.specs.declared.instruction.Instruction.TheVariants as i
-use Rattle.code_gen.specs.Compile.{Part, expression_code, if_code, if_else_code, while_code, loop_code, stores, statement_code, block_code}
+use Rattle.code_gen.specs.Compile.{Part, expression_code, if_code, loop_code, stores, statement_code, block_code}
 use Rattle.code_gen.specs.Reach.{reach, block_reach}
 use Rattle.code_gen.proofs.Codes.{code_if_only, code_if_else, code_while}
-use Rattle.code_gen.proofs.Emits.{set_amid, next_emitted, one_hole}
+use Rattle.code_gen.proofs.Emits.{set_amid, next_emitted}
 use Rattle.code_gen.proofs.Listings.{length_stores}
 
 -- the statement at a place stands before those behind it

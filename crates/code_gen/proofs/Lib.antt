@@ -17,3 +17,4 @@ pub mod Emits
 pub mod Reaches
 pub mod Blocks
 pub mod Clients
+mod Choices

@@ -1,5 +1,5 @@
 -- Up to which slot the loops of a statement store.
-use Rattle.std.specs.Prelude.{ℕ, ◌+◌, max, List, map, Option, None, Some}
+use Rattle.std.specs.Prelude.{ℕ, ◌+◌, max, List, map}
 use Rattle.cloud_base.specs.Shaped.{property_at}
 use Rattle.cloud_base.specs.declared.schema.Schema.{Schema}
 use Rattle.typed_program.specs.Widths.{greatest, greatest_of}

@@ -59,7 +59,8 @@ impl Emitter {
 
     /// Leaves the next place to an instruction that is written later.
     pub fn leave(&mut self) -> Result<usize, Memory>
-        ensures { IfOk result (λ at. (at ≡ length self.old) × (self.new ≡ self.old ++ i.End ∷ [])) }
+        ensures { IfOk result
+            (λ at. (at ≡ length self.old) × (self.new ≡ self.old ++ i.End ∷ [])) }
     {
         let at = self.place();
         self.push(Instruction::End)?;

@@ -11,3 +11,6 @@ mod statement;
 pub use compiler::compile;
 pub use laws::{codes_are_valid, codes_mean_bodies};
 pub use lister::listing;
+
+#[cfg(test)]
+mod tests;

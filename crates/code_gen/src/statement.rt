@@ -179,8 +179,8 @@ impl Emitter {
         Ok(())
     }
 
-    // Takes the items of the newest listing one by one, the parts of each into slots from the first
-    // on, and does the block for each.
+    // Takes the items of the newest listing one by one, the parts of each into slots from the
+    // first on, and does the block for each.
     #[cycle(statement)]
     fn each(
         &mut self,

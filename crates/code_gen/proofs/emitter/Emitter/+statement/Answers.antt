@@ -1,4 +1,4 @@
-use Rattle.std.proofs.Common.{rules, ◌≡◌, sym, ap, ◌∙◌, [], ◌∷◌, ◌++◌, length, OnOk, ℕ, ◌+◌, append-nil, append_assoc, subst, arith}
+use Rattle.std.proofs.Common.{rules, ◌≡◌, sym, ap, ◌∙◌, [], ◌∷◌, ◌++◌, length, OnOk, ◌+◌, append-nil, append_assoc, subst, arith}
 use Rattle.std.proofs.lemmas.List.{length-append}
 use Rattle.plain_vm.specs.declared.instruction.Instruction.TheVariants as i
 use Rattle.typed_program.specs.declared.statement.Statement.{the_lemmas}
