@@ -1,5 +1,6 @@
 // Laws of records.
-ghost use Rattle.std.specs.Prelude.{◌≡◌, ℕ, ◌+◌, ◌≤◌, ◌<◌, List, [], ◌++◌, length, take, Some, slice_get, ◌↔◌};
+ghost use Rattle.std.specs.Prelude.{◌≡◌, ℕ, ◌+◌, ◌≤◌, ◌<◌, List, [], ◌++◌, length, take, Some};
+ghost use Rattle.std.specs.Prelude.{slice_get, ◌↔◌};
 ghost use Rattle.cloud_base.specs.declared.batch.Batch.{Batch};
 ghost use Rattle.cloud_base.specs.declared.update.Answer.{Answer};
 ghost use Rattle.cloud_base.specs.declared.update.Query.{Query};

@@ -2,7 +2,9 @@
 ghost use Rattle.std.specs.Prelude.{◌≡◌, ◌≤◌, ◌<◌, [], length, min, None, Some, IfOk};
 ghost use Rattle.std.specs.Result.{result_ok};
 ghost use Rattle.cloud_base.specs.Causes.{HasCause};
-ghost use Rattle.cloud_base.specs.Streams.{HandsOut, Ends, Takes, TakesCause, after_read, read_answer, after_write, write_answer, one_sooner as sooner};
+ghost use Rattle.cloud_base.specs.Streams.{HandsOut, Ends, Takes, TakesCause, after_read};
+ghost use Rattle.cloud_base.specs.Streams.{read_answer, after_write, write_answer};
+ghost use Rattle.cloud_base.specs.Streams.{one_sooner as sooner};
 
 use crate::memory::Memory;
 use crate::streams::{Failed, Sink, Source};

@@ -1,16 +1,21 @@
 // What follows from the definitions alone. A function whose proof cites a law calls it.
-ghost use Rattle.std.specs.Prelude.{◌≡◌, ◌↔◌, ◌⊎◌, List, [], ◌∷◌, ◌++◌, ℕ, Bool, true, false, ◌||◌, ℤ, ◌+ℤ◌, All, IsTrue, Contains, FitsSigned, None};
+ghost use Rattle.std.specs.Prelude.{◌≡◌, ◌↔◌, ◌⊎◌, List, [], ◌∷◌, ◌++◌, ℕ, Bool, true, false, ◌||◌};
+ghost use Rattle.std.specs.Prelude.{ℤ, ◌+ℤ◌, All, IsTrue, Contains, FitsSigned, None};
 ghost use Rattle.std.specs.Option.{option_or};
 ghost use Rattle.std.specs.Int.{w64, int_wrap};
 ghost use Rattle.std.specs.Cmp.{IsTotalOrder};
 ghost use Rattle.cloud_base.specs.Values.{Id};
-ghost use Rattle.cloud_base.specs.Order.{id_order, text_order, key_order, keys_order, same_id, same_keys};
+ghost use Rattle.cloud_base.specs.Order.{id_order, text_order, key_order, keys_order, same_id};
+ghost use Rattle.cloud_base.specs.Order.{same_keys};
 ghost use Rattle.cloud_base.specs.Sorted.{Lists};
-ghost use Rattle.cloud_base.specs.PlainCell.{plain_int, plain_text, plain_value, walk_text, default_of, is_default};
-ghost use Rattle.cloud_base.specs.Log.{of_cell, touched, created, creation, is_created, is_deleted, ids_of};
+ghost use Rattle.cloud_base.specs.PlainCell.{plain_int, plain_text, plain_value, walk_text};
+ghost use Rattle.cloud_base.specs.PlainCell.{default_of, is_default};
+ghost use Rattle.cloud_base.specs.Log.{of_cell, touched, created, creation, is_created, is_deleted};
+ghost use Rattle.cloud_base.specs.Log.{ids_of};
 ghost use Rattle.cloud_base.specs.Dead.{Chain, Dead, is_dead, has_dead};
 ghost use Rattle.cloud_base.specs.Leads.{Leads};
-ghost use Rattle.cloud_base.specs.Shaped.{Fit, CreatedOnce, Disjoint, IsChange, IsSaid, IsShaped, IsShapedQuery, IsShapedAnswer, IsValue};
+ghost use Rattle.cloud_base.specs.Shaped.{Fit, CreatedOnce, Disjoint, IsChange, IsSaid, IsShaped};
+ghost use Rattle.cloud_base.specs.Shaped.{IsShapedQuery, IsShapedAnswer, IsValue};
 ghost use Rattle.cloud_base.specs.Alike.{Alike, IsPart};
 ghost use Rattle.cloud_base.specs.Answer.{answer, all_ids, entries, is_listed, is_entry};
 ghost use Rattle.cloud_base.specs.declared.key.Key.{Key};

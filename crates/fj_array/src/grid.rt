@@ -1,5 +1,6 @@
 // A grid of cells, by property and keys.
-ghost use Rattle.std.specs.Prelude.{◌≡◌, ◌≢◌, ◌↔◌, List, [], ◌∷◌, ◌++◌, Some, None, false, true, IsTrue, OnOk, OnErr, IfOk};
+ghost use Rattle.std.specs.Prelude.{◌≡◌, ◌≢◌, ◌↔◌, List, [], ◌∷◌, ◌++◌, Some, None, false, true};
+ghost use Rattle.std.specs.Prelude.{IsTrue, OnOk, OnErr, IfOk};
 ghost use Rattle.cloud_base.specs.Order.{keys_order};
 ghost use Rattle.cloud_base.specs.Sorted.{Lists};
 ghost use Rattle.cloud_base.specs.declared.key.Key.{Key};
@@ -7,7 +8,8 @@ ghost use Rattle.fj_array.specs.declared.cell.Cell.{Cell};
 ghost use Rattle.fj_array.specs.declared.effect.CellEffect.{CellEffect};
 ghost use Rattle.fj_array.specs.Cells.{At, of_cell, is_id, has_id, without};
 ghost use Rattle.fj_array.specs.Effects.{cell_of, effect_order};
-ghost use Rattle.fj_array.specs.Grids.{kept_at, IsIdle, CellStands, GridStands, Puts, AgreeElsewhere};
+ghost use Rattle.fj_array.specs.Grids.{kept_at, IsIdle, CellStands, GridStands, Puts};
+ghost use Rattle.fj_array.specs.Grids.{AgreeElsewhere};
 
 use crate::cell::Cell;
 use crate::effect::{CellEffect, EffectList};

@@ -28,8 +28,11 @@ fn sum(a: i64, b: i64) -> i64
 }
 
 impl ForkJoin for IntCell {
-    ghost use Rattle.fj_core.specs.IntCells.{int_plain, int_effect, IntStands, IsIntEffect, int_applied, int_combined};
-    ghost use Rattle.fj_core.specs.IntLaws.{int_stands_by_effect, int_plain-append, int_effect-append, int_effect-empty, int_canonical, int_effect_is_own};
+    ghost use Rattle.fj_core.specs.IntCells.{int_plain, int_effect, IntStands, IsIntEffect};
+    ghost use Rattle.fj_core.specs.IntCells.{int_applied, int_combined};
+    ghost use Rattle.fj_core.specs.IntLaws.{int_stands_by_effect, int_plain-append};
+    ghost use Rattle.fj_core.specs.IntLaws.{int_effect-append, int_effect-empty, int_canonical};
+    ghost use Rattle.fj_core.specs.IntLaws.{int_effect_is_own};
 
     type Change = IntChange;
 

@@ -58,8 +58,11 @@ impl TextCell {
 }
 
 impl ForkJoin for TextCell {
-    ghost use Rattle.fj_core.specs.TextCells.{text_plain, text_effect, TextStands, IsTextEffect, text_applied, text_combined};
-    ghost use Rattle.fj_core.specs.TextLaws.{text_stands_by_effect, text_plain-append, text_effect-append, text_effect-empty, text_canonical, text_effect_is_own};
+    ghost use Rattle.fj_core.specs.TextCells.{text_plain, text_effect, TextStands, IsTextEffect};
+    ghost use Rattle.fj_core.specs.TextCells.{text_applied, text_combined};
+    ghost use Rattle.fj_core.specs.TextLaws.{text_stands_by_effect, text_plain-append};
+    ghost use Rattle.fj_core.specs.TextLaws.{text_effect-append, text_effect-empty, text_canonical};
+    ghost use Rattle.fj_core.specs.TextLaws.{text_effect_is_own};
 
     type Change = TextChange;
 

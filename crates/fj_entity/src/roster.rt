@@ -1,5 +1,6 @@
 // The ids that live, and the dead ones.
-ghost use Rattle.std.specs.Prelude.{◌≡◌, ℕ, List, [], ◌∷◌, ◌++◌, Contains, Some, None, true, false, if◌then◌else◌, MatchOption, IsTrue, IfOk, OnOk, OnErr};
+ghost use Rattle.std.specs.Prelude.{◌≡◌, ℕ, List, [], ◌∷◌, ◌++◌, Contains, Some, None, true, false};
+ghost use Rattle.std.specs.Prelude.{if◌then◌else◌, MatchOption, IsTrue, IfOk, OnOk, OnErr};
 ghost use Rattle.std.specs.List.{list_any, filter_map};
 ghost use Rattle.std.specs.List.Sorted.{IsStrictlySortedBy};
 ghost use Rattle.cloud_base.specs.Values.{Id};
@@ -11,9 +12,12 @@ ghost use Rattle.cloud_base.specs.Sorted.{Lists};
 ghost use Rattle.cloud_base.specs.declared.key.Key.{Key};
 ghost use Rattle.cloud_base.specs.declared.update.Update.{Update};
 ghost use Rattle.cloud_base.specs.declared.update.Update.TheVariants as Change;
-ghost use Rattle.fj_entity.specs.Fates.{fate_at, is_gone, is_living, is_gone_key, has_gone, is_ref, has_ref, is_child_by, member, dead_one, created_one, found, buried, is_among};
+ghost use Rattle.fj_entity.specs.Fates.{fate_at, is_gone, is_living, is_gone_key, has_gone, is_ref};
+ghost use Rattle.fj_entity.specs.Fates.{has_ref, is_child_by, member, dead_one, created_one, found};
+ghost use Rattle.fj_entity.specs.Fates.{buried, is_among};
 ghost use Rattle.fj_entity.specs.declared.fate.Fate.TheVariants.{Living, Dead};
-ghost use Rattle.fj_entity.specs.Rosters.{RosterStands, Ascends, IsDoomed, IsNewlyDead, IsLiving, Kills, created_order};
+ghost use Rattle.fj_entity.specs.Rosters.{RosterStands, Ascends, IsDoomed, IsNewlyDead, IsLiving};
+ghost use Rattle.fj_entity.specs.Rosters.{Kills, created_order};
 ghost use Rattle.fj_entity.specs.Walks.{IsChild, Reaches};
 
 use crate::created::{Created, CreatedList};

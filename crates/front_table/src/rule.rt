@@ -1,6 +1,7 @@
 // The rule of a chronicle's table, and what its steps do to the views.
 ghost use Rattle.std.specs.Prelude.{◌≡◌, List, []};
-ghost use Rattle.front_table.specs.Chronicle.{IsKept, Tells, newcomer, appended, front_of, both_of, spent};
+ghost use Rattle.front_table.specs.Chronicle.{IsKept, Tells, newcomer, appended, front_of, both_of};
+ghost use Rattle.front_table.specs.Chronicle.{spent};
 
 use crate::view::View;
 use atomic_table::{Join, Play, Split, TableRule};

@@ -3,8 +3,10 @@ ghost use Rattle.std.specs.Prelude.{◌≡◌, true, false, IfOk};
 ghost use Rattle.std.specs.List.Sorted.{IsPartitionPoint};
 ghost use Rattle.cloud_base.specs.declared.schema.Owner.TheVariants as Owned;
 ghost use Rattle.kind_rules.specs.Names.{first_place};
-ghost use Rattle.kind_names.specs.Keys.{Named, named, owner_order, named_order, owner_of, of_property, of_entity, of_name, goes_by};
-ghost use Rattle.kind_names.specs.Indexes.{named_at, number_order, is_before, is_at, below, Indexes};
+ghost use Rattle.kind_names.specs.Keys.{Named, named, owner_order, named_order, owner_of};
+ghost use Rattle.kind_names.specs.Keys.{of_property, of_entity, of_name, goes_by};
+ghost use Rattle.kind_names.specs.Indexes.{named_at, number_order, is_before, is_at, below};
+ghost use Rattle.kind_names.specs.Indexes.{Indexes};
 
 use cloud_base::{Entity, Memory, Name, Owner, Property};
 use std::alloc::Global;

@@ -1,5 +1,6 @@
 // The variables that are visible at a place of a body.
-ghost use Rattle.std.specs.Prelude.{◌≡◌, ◌≤◌, ◌<◌, ◌^◌, [], ◌∷◌, ◌++◌, length, take, IfSome, OnOk, OnErr};
+ghost use Rattle.std.specs.Prelude.{◌≡◌, ◌≤◌, ◌<◌, ◌^◌, [], ◌∷◌, ◌++◌, length, take, IfSome, OnOk};
+ghost use Rattle.std.specs.Prelude.{OnErr};
 ghost use Rattle.std.specs.Str.{bytes_eq};
 ghost use Rattle.kind_rules.specs.Names.{slot_of};
 ghost use Rattle.kind_rules.specs.Expressions.{kind_at};

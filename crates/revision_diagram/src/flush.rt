@@ -1,11 +1,13 @@
 // When the flushes of a diagram are met, for every list of steps.
 //
 // The steps of a record with flushes are built by these laws.
-ghost use Rattle.std.specs.Prelude.{◌≡◌, ◌≢◌, ℕ, ◌<◌, true, false, List, [], ◌∷◌, ◌++◌, length, take, slice_get, Some, None, IsTrue, ◌↔◌};
+ghost use Rattle.std.specs.Prelude.{◌≡◌, ◌≢◌, ℕ, ◌<◌, true, false, List, [], ◌∷◌, ◌++◌, length};
+ghost use Rattle.std.specs.Prelude.{take, slice_get, Some, None, IsTrue, ◌↔◌};
 ghost use Rattle.revision_diagram.specs.declared.step.Step.{Step};
 ghost use Rattle.revision_diagram.specs.Diagram.{acts_on, revisions, owner, past};
 ghost use Rattle.revision_diagram.specs.Story.{is_told, story};
-ghost use Rattle.revision_diagram.specs.Meeting.{Tree, first_above, newest, joins_up, forks_down, Flushed, FlushLaw};
+ghost use Rattle.revision_diagram.specs.Meeting.{Tree, first_above, newest, joins_up, forks_down};
+ghost use Rattle.revision_diagram.specs.Meeting.{Flushed, FlushLaw};
 
 /// The flush law holds where the flush at each place is met: at its client's next step, or at the
 /// end, where there is none. A flush that is met at a next step stays so, whatever comes.

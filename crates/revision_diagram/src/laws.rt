@@ -2,18 +2,25 @@
 //
 // The run of one client and the steps of a record are built a step at a time by these laws. What is
 // said of each place is for those who check steps that they are given.
-ghost use Rattle.std.specs.Prelude.{◌≡◌, ◌≢◌, ℕ, ◌+◌, ◌<◌, ◌≤◌, Bool, true, false, cond, List, [], ◌∷◌, ◌++◌, length, take, drop, slice_get, Some, None, IsTrue, ◌↔◌};
+ghost use Rattle.std.specs.Prelude.{◌≡◌, ◌≢◌, ℕ, ◌+◌, ◌<◌, ◌≤◌, Bool, true, false, cond, List, []};
+ghost use Rattle.std.specs.Prelude.{◌∷◌, ◌++◌, length, take, drop, slice_get, Some, None, IsTrue};
+ghost use Rattle.std.specs.Prelude.{◌↔◌};
 ghost use Rattle.std.specs.List.{last_or, cons_option};
 ghost use Rattle.cloud_base.specs.declared.update.Update.{Update};
 ghost use Rattle.cloud_base.specs.declared.update.Query.{Query};
 ghost use Rattle.cloud_base.specs.declared.update.Answer.{Answer};
 ghost use Rattle.revision_diagram.specs.declared.step.Step.{Step};
-ghost use Rattle.revision_diagram.specs.Diagram.{diagram, after, put, with_place, with_past, acts_on, is_of, revisions, live, owner, past, path, fork, fork_length};
+ghost use Rattle.revision_diagram.specs.Diagram.{diagram, after, put, with_place, with_past};
+ghost use Rattle.revision_diagram.specs.Diagram.{acts_on, is_of, revisions, live, owner, past};
+ghost use Rattle.revision_diagram.specs.Diagram.{path, fork, fork_length};
 ghost use Rattle.revision_diagram.specs.Lawful.{is_lawful, Lawful};
 ghost use Rattle.revision_diagram.specs.Right.{log, Right, AnsweredRight};
-ghost use Rattle.revision_diagram.specs.Once.{stands_on, is_do, joins_apart, StandsOnce, AllStandOnce, Once};
-ghost use Rattle.revision_diagram.specs.Story.{is_told, story, event_of, events, is_in_line, LineLaw};
-ghost use Rattle.revision_diagram.specs.Meeting.{Tree, client_at, is_placed, Placed, is_at_mark, AtMarks, is_flush, flushes, is_mark_at, FlushLaw};
+ghost use Rattle.revision_diagram.specs.Once.{stands_on, is_do, joins_apart, StandsOnce};
+ghost use Rattle.revision_diagram.specs.Once.{AllStandOnce, Once};
+ghost use Rattle.revision_diagram.specs.Story.{is_told, story, event_of, events, is_in_line};
+ghost use Rattle.revision_diagram.specs.Story.{LineLaw};
+ghost use Rattle.revision_diagram.specs.Meeting.{Tree, client_at, is_placed, Placed, is_at_mark};
+ghost use Rattle.revision_diagram.specs.Meeting.{AtMarks, is_flush, flushes, is_mark_at, FlushLaw};
 ghost use Rattle.revision_diagram.specs.Headline.{is_for_node, AllOwned};
 ghost use Rattle.revision_diagram.specs.Untouched.{Untouched, JustForked};
 

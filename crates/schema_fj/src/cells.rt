@@ -1,5 +1,6 @@
 // What is done to the grid of one type of cell.
-ghost use Rattle.std.specs.Prelude.{◌≡◌, All, List, [], ◌∷◌, ◌++◌, map, ◌↔◌, IsTrue, Option, Some, IfOk, OnOk, OnErr};
+ghost use Rattle.std.specs.Prelude.{◌≡◌, All, List, [], ◌∷◌, ◌++◌, map, ◌↔◌, IsTrue, Option, Some};
+ghost use Rattle.std.specs.Prelude.{IfOk, OnOk, OnErr};
 ghost use Rattle.cloud_base.specs.Sorted.{Lists};
 ghost use Rattle.fj_array.specs.Effects.{cell_of, effect_order};
 ghost use Rattle.fj_core.specs.IntCells.{int_plain, int_effect, IntStands, IsIntEffect};

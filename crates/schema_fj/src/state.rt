@@ -1,5 +1,6 @@
 // The data of a replica.
-ghost use Rattle.std.specs.Prelude.{◌≡◌, List, [], ◌∷◌, ◌++◌, None, true, false, not, filter, filter_map, map, IfOk, OnOk, OnErr};
+ghost use Rattle.std.specs.Prelude.{◌≡◌, List, [], ◌∷◌, ◌++◌, None, true, false, not, filter};
+ghost use Rattle.std.specs.Prelude.{filter_map, map, IfOk, OnOk, OnErr};
 ghost use Rattle.cloud_base.specs.Values.{Id};
 ghost use Rattle.cloud_base.specs.Alike.{IsPart};
 ghost use Rattle.cloud_base.specs.Answer.{answer, entries};
@@ -55,7 +56,14 @@ impl Model for State {
 
     ghost Value = { Held };
 
-    ghost view = { λ s. record { types = s.types; numbers = s.numbers; texts = s.texts; fates = s.roster; born = s.born.keys; died = s.died.keys } };
+    ghost view = { λ s. record {
+      types = s.types;
+      numbers = s.numbers;
+      texts = s.texts;
+      fates = s.roster;
+      born = s.born.keys;
+      died = s.died.keys;
+    } };
 }
 
 fn types_of(alloc: Global, schema: &Schema) -> Result<Vec<CellType>, Memory>

@@ -4,7 +4,7 @@ mod Steps
 mod Stops
 mod Parts
 mod Turns
-mod Lists
+mod Loop
 mod Expressions
 mod Bodies
 mod Blocks

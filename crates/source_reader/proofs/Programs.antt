@@ -20,10 +20,10 @@ use Rattle.source_tree.specs.declared.program.Program.{Program}
 use Rattle.source_tree.specs.Heights.{body_height}
 use Rattle.source_tree.specs.Programs.{SpellsCell, SpellsKeyType, SpellsKey, SpellsKeyList, SpellsEntityKeys, SpellsProperty, SpellsPropertyList, SpellsProperties, SpellsDeclaration, SpellsDeclarations, SpellsFate, SpellsItem, SpellsItems, SpellsClient, SpellsClients, SpellsProgram, cell_int, cell_text, key_int, key_text, key_entity, key, last_key, more_keys, no_keys, some_keys, property, no_properties, last_property, more_properties, properties, global, array, entity, no_declarations, more_declarations, pass, lose_push, lose_reply, twice, hold, steps, serve, no_items, more_items, client, no_clients, schedule, more_clients, program}
 use Rattle.source_reader.specs.Reading.{Reads, ReadsHigh, ◌>>=◌, within, behind, name_at}
-use Rattle.source_reader.specs.Sources.{cell_at, key_type_at, key_at, key_list_by, property_at, property_list_by, properties_at, entity_keys_at, global_at, array_at, entity_at, declaration_at, declarations_by, fate_at, number_at, steps_at, serve_at, item_at, items_by, client_by, clients_by, schedule_at, body_of, ended, schema_at, program_at}
+use Rattle.source_reader.specs.Sources.{cell_at, key_type_at, key_at, key_list_by, property_at, properties_by, properties_at, entity_keys_at, global_at, array_at, entity_at, declaration_at, declared_by, fate_at, number_at, steps_at, serve_at, item_at, items_by, client_by, clients_by, schedule_at, body_of, ended, schema_at, program_at}
 use Rattle.source_reader.proofs.Heights.{within_yes, within_no}
 use Rattle.source_reader.proofs.Parts.{behind_shorter, cased}
-use Rattle.source_reader.proofs.Lists.{clients_end}
+use Rattle.source_reader.proofs.Loop.{clients_end}
 use Rattle.source_reader.proofs.Blocks.{block_again}
 
 cell_again : (of : CellType) (u : List Token) → SpellsCell of u → (rest : List Token) → cell_at (u ++ rest) ≡ Some (of, rest)
@@ -86,33 +86,33 @@ property_longer x u (property n of v h) rest = let q : length rest ≤ length (v
 
 abbrev PropertyGoes : ℕ → List Property → (Property × List Token) → Reads (List Property)
 PropertyGoes k before x = elim (behind t.Semicolon x.1) [
-  | Some rest ↦ property_list_by k (before ++ x.0 ∷ []) rest
+  | Some rest ↦ properties_by k (before ++ x.0 ∷ []) rest
   | None ↦ behind t.CloseBrace x.1 >>= λ rest. Some (before ++ x.0 ∷ [], rest)
 ]
 
-property_list_read : (k : ℕ) (before : List Property) (tokens : List Token) → 0 < k → behind t.CloseBrace tokens ≡ None → property_list_by k before tokens ≡ (property_at tokens >>= PropertyGoes (k - 1) before)
-unfolding property_list_by
+property_list_read : (k : ℕ) (before : List Property) (tokens : List Token) → 0 < k → behind t.CloseBrace tokens ≡ None → properties_by k before tokens ≡ (property_at tokens >>= PropertyGoes (k - 1) before)
+unfolding properties_by
 property_list_read zero before tokens more is = absurd (omega arith)
 property_list_read (suc k) before tokens more is =
     let count : suc k - 1 ≡ k = omega arith in
     rw count (ap (λ o. elim o [ Some rest ↦ Some (before, rest) | None ↦ property_at tokens >>= PropertyGoes k before ]) is)
 
 property_list_again : (xs : List Property) (u : List Token) → SpellsPropertyList xs u → (k : ℕ) (before : List Property) (rest : List Token) → length (u ++ rest) ≤ k
-    → property_list_by k before (u ++ rest) ≡ Some (before ++ xs, rest)
-unfolding property_list_by behind
+    → properties_by k before (u ++ rest) ≡ Some (before ++ xs, rest)
+unfolding properties_by behind
 property_list_again xs u no_properties zero before rest long = absurd (let q : length (Fixed t.CloseBrace ∷ rest) ≤ 0 = long in omega arith)
 property_list_again xs u no_properties (suc k) before rest long = ap (λ all. Some (all, rest)) (sym (append-nil before))
 property_list_again xs u (last_property x v h) k before rest long =
     let same : (v ++ Fixed t.CloseBrace ∷ []) ++ rest ≡ v ++ (Fixed t.CloseBrace ∷ rest) = append_assoc v (Fixed t.CloseBrace ∷ []) rest in
     let long : length (v ++ (Fixed t.CloseBrace ∷ rest)) ≤ k = subst (λ ts. length ts ≤ k) same long in
     let q : length (Fixed t.CloseBrace ∷ rest) < length (v ++ (Fixed t.CloseBrace ∷ rest)) = property_longer x v h (Fixed t.CloseBrace ∷ rest) in
-    ap (property_list_by k before) same ∙ property_list_read k before (v ++ (Fixed t.CloseBrace ∷ rest)) (omega arith) (property_open x v h (Fixed t.CloseBrace ∷ rest))
+    ap (properties_by k before) same ∙ property_list_read k before (v ++ (Fixed t.CloseBrace ∷ rest)) (omega arith) (property_open x v h (Fixed t.CloseBrace ∷ rest))
     ∙ ap (λ o. o >>= PropertyGoes (k - 1) before) (property_again x v h (Fixed t.CloseBrace ∷ rest))
 property_list_again xs u (more_properties x ys v w h i) k before rest long =
     let same : (v ++ Fixed t.Semicolon ∷ w) ++ rest ≡ v ++ (Fixed t.Semicolon ∷ (w ++ rest)) = append_assoc v (Fixed t.Semicolon ∷ w) rest in
     let long : length (v ++ (Fixed t.Semicolon ∷ (w ++ rest))) ≤ k = subst (λ ts. length ts ≤ k) same long in
     let q : length (Fixed t.Semicolon ∷ (w ++ rest)) < length (v ++ (Fixed t.Semicolon ∷ (w ++ rest))) = property_longer x v h (Fixed t.Semicolon ∷ (w ++ rest)) in
-    ap (property_list_by k before) same ∙ property_list_read k before (v ++ (Fixed t.Semicolon ∷ (w ++ rest))) (omega arith) (property_open x v h (Fixed t.Semicolon ∷ (w ++ rest)))
+    ap (properties_by k before) same ∙ property_list_read k before (v ++ (Fixed t.Semicolon ∷ (w ++ rest))) (omega arith) (property_open x v h (Fixed t.Semicolon ∷ (w ++ rest)))
     ∙ ap (λ o. o >>= PropertyGoes (k - 1) before) (property_again x v h (Fixed t.Semicolon ∷ (w ++ rest)))
     ∙ property_list_again ys w i (k - 1) (before ++ x ∷ []) rest (omega arith) ∙ ap (λ all. Some (all, rest)) (append_assoc before (x ∷ []) ys)
 
@@ -157,24 +157,24 @@ declaration_longer x u (array n keys ys v w h i) rest = let q : length rest ≤ 
 declaration_longer x u (entity n keys ys v w h i) rest = let q : length rest ≤ length ((v ++ w) ++ rest) = behind_shorter (v ++ w) rest in omega arith
 
 declarations_read : (k : ℕ) (before : List Declaration) (tokens : List Token) → 0 < k → behind t.CloseBrace tokens ≡ None
-    → declarations_by k before tokens ≡ (declaration_at tokens >>= λ x. declarations_by (k - 1) (before ++ x.0 ∷ []) x.1)
-unfolding declarations_by
+    → declared_by k before tokens ≡ (declaration_at tokens >>= λ x. declared_by (k - 1) (before ++ x.0 ∷ []) x.1)
+unfolding declared_by
 declarations_read zero before tokens more is = absurd (omega arith)
 declarations_read (suc k) before tokens more is =
     let count : suc k - 1 ≡ k = omega arith in
-    rw count (ap (λ o. elim o [ Some rest ↦ Some (before, rest) | None ↦ declaration_at tokens >>= λ x. declarations_by k (before ++ x.0 ∷ []) x.1 ]) is)
+    rw count (ap (λ o. elim o [ Some rest ↦ Some (before, rest) | None ↦ declaration_at tokens >>= λ x. declared_by k (before ++ x.0 ∷ []) x.1 ]) is)
 
 declarations_again : (xs : List Declaration) (u : List Token) → SpellsDeclarations xs u → (k : ℕ) (before : List Declaration) (rest : List Token) → length (u ++ rest) ≤ k
-    → declarations_by k before (u ++ rest) ≡ Some (before ++ xs, rest)
-unfolding declarations_by behind
+    → declared_by k before (u ++ rest) ≡ Some (before ++ xs, rest)
+unfolding declared_by behind
 declarations_again xs u no_declarations zero before rest long = absurd (let q : length (Fixed t.CloseBrace ∷ rest) ≤ 0 = long in omega arith)
 declarations_again xs u no_declarations (suc k) before rest long = ap (λ all. Some (all, rest)) (sym (append-nil before))
 declarations_again xs u (more_declarations x ys v w h i) k before rest long =
     let same : (v ++ w) ++ rest ≡ v ++ (w ++ rest) = append_assoc v w rest in
     let long : length (v ++ (w ++ rest)) ≤ k = subst (λ ts. length ts ≤ k) same long in
     let q : length (w ++ rest) < length (v ++ (w ++ rest)) = declaration_longer x v h (w ++ rest) in
-    ap (declarations_by k before) same ∙ declarations_read k before (v ++ (w ++ rest)) (omega arith) (declaration_open x v h (w ++ rest))
-    ∙ ap (λ o. o >>= λ x. declarations_by (k - 1) (before ++ x.0 ∷ []) x.1) (declaration_again x v h (w ++ rest))
+    ap (declared_by k before) same ∙ declarations_read k before (v ++ (w ++ rest)) (omega arith) (declaration_open x v h (w ++ rest))
+    ∙ ap (λ o. o >>= λ x. declared_by (k - 1) (before ++ x.0 ∷ []) x.1) (declaration_again x v h (w ++ rest))
     ∙ declarations_again ys w i (k - 1) (before ++ x ∷ []) rest (omega arith) ∙ ap (λ all. Some (all, rest)) (append_assoc before (x ∷ []) ys)
 
 -- ---- schedules

@@ -47,18 +47,18 @@ unfoldable pub property_at : List Token → Reads Property
 property_at tokens = name_at tokens >>= λ n. behind t.Colon n.1 >>= λ ts. cell_at ts >>= λ of. Some (record { name = n.0; cell = of.0 }, of.1)
 
 -- further properties, at most so many, behind those that are there; and the closing brace
-unfoldable pub property_list_by : ℕ → List Property → List Token → Reads (List Property)
-property_list_by zero properties tokens = None
-property_list_by (suc n) properties tokens = elim (behind t.CloseBrace tokens) [
+unfoldable pub properties_by : ℕ → List Property → List Token → Reads (List Property)
+properties_by zero properties tokens = None
+properties_by (suc n) properties tokens = elim (behind t.CloseBrace tokens) [
   | Some rest ↦ Some (properties, rest)
   | None ↦ property_at tokens >>= λ property. elim (behind t.Semicolon property.1) [
-    | Some rest ↦ property_list_by n (properties ++ property.0 ∷ []) rest
+    | Some rest ↦ properties_by n (properties ++ property.0 ∷ []) rest
     | None ↦ behind t.CloseBrace property.1 >>= λ rest. Some (properties ++ property.0 ∷ [], rest)
   ]
 ]
 
 unfoldable pub properties_at : List Token → Reads (List Property)
-properties_at tokens = behind t.OpenBrace tokens >>= λ ts. property_list_by (length ts) [] ts
+properties_at tokens = behind t.OpenBrace tokens >>= λ ts. properties_by (length ts) [] ts
 
 -- keys in brackets, if there are any
 unfoldable pub entity_keys_at : List Token → Reads (List Key)
@@ -83,11 +83,11 @@ declaration_at (Fixed t.Entity ∷ rest) = entity_at rest
 declaration_at tokens = None
 
 -- further declarations, at most so many, behind those that are there; and the closing brace
-unfoldable pub declarations_by : ℕ → List Declaration → List Token → Reads (List Declaration)
-declarations_by zero declarations tokens = None
-declarations_by (suc n) declarations tokens = elim (behind t.CloseBrace tokens) [
+unfoldable pub declared_by : ℕ → List Declaration → List Token → Reads (List Declaration)
+declared_by zero declarations tokens = None
+declared_by (suc n) declarations tokens = elim (behind t.CloseBrace tokens) [
   | Some rest ↦ Some (declarations, rest)
-  | None ↦ declaration_at tokens >>= λ declaration. declarations_by n (declarations ++ declaration.0 ∷ []) declaration.1
+  | None ↦ declaration_at tokens >>= λ declaration. declared_by n (declarations ++ declaration.0 ∷ []) declaration.1
 ]
 
 unfoldable pub fate_at : List Token → Reads Fate
@@ -149,7 +149,7 @@ ended a [] = Some a
 ended a (token ∷ tokens) = None
 
 unfoldable pub schema_at : List Token → Reads (List Declaration)
-schema_at tokens = behind t.Schema tokens >>= λ ts. behind t.OpenBrace ts >>= λ ts. declarations_by (length ts) [] ts
+schema_at tokens = behind t.Schema tokens >>= λ ts. behind t.OpenBrace ts >>= λ ts. declared_by (length ts) [] ts
 
 -- a whole program whose bodies have at most a height
 unfoldable pub program_at : ℕ → ℕ → List Token → Option Program

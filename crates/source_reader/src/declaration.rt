@@ -2,9 +2,9 @@
 ghost use Rattle.std.specs.Prelude.{◌≡◌, [], length, option_map, IfOk};
 ghost use Rattle.source_tokens.specs.Scans.{tokens_of};
 ghost use Rattle.source_reader.specs.Sources.{cell_at, key_type_at, key_at, key_list_by};
-ghost use Rattle.source_reader.specs.Sources.{property_at, property_list_by, properties_at};
+ghost use Rattle.source_reader.specs.Sources.{property_at, properties_by, properties_at};
 ghost use Rattle.source_reader.specs.Sources.{entity_keys_at, global_at, array_at, entity_at};
-ghost use Rattle.source_reader.specs.Sources.{declaration_at, declarations_by, schema_at};
+ghost use Rattle.source_reader.specs.Sources.{declaration_at, declared_by, schema_at};
 
 use crate::token::{behind, name_at, split};
 use cloud_base::{CellType, Memory, Sequence};
@@ -59,7 +59,7 @@ fn key_at<'a>(alloc: Global, tokens: &'a [Placed]) -> Result<Option<(Key, &'a [P
 }
 
 // The declared keys, up to the closing bracket.
-#[tactic(auto, using(crate::proofs::Lists::keys), unfolding(crate::specs::Sources::key_list_by))]
+#[tactic(auto, using(crate::proofs::Loop::keys), unfolding(crate::specs::Sources::key_list_by))]
 fn key_list_at<'a>(
     alloc: Global,
     tokens: &'a [Placed],
@@ -109,13 +109,13 @@ fn property_at<'a>(
 }
 
 // The properties, up to the closing brace.
-#[tactic(auto, using(crate::proofs::Lists::properties), unfolding(crate::specs::Sources::property_list_by))]
+#[tactic(auto, using(crate::proofs::Loop::listed), unfolding(crate::specs::Sources::properties_by))]
 fn property_list_at<'a>(
     alloc: Global,
     tokens: &'a [Placed],
 ) -> Result<Option<(Sequence<Property>, &'a [Placed])>, Memory>
     ensures { IfOk result (λ found. option_map (λ f. (f.0, tokens_of f.1.now)) found
-        ≡ property_list_by (length (tokens_of tokens.now)) [] (tokens_of tokens.now)) }
+        ≡ properties_by (length (tokens_of tokens.now)) [] (tokens_of tokens.now)) }
 {
     let mut properties = Sequence::new(alloc);
     let mut rest = tokens;
@@ -247,13 +247,13 @@ fn declaration_at<'a>(
 }
 
 // The declarations, up to the closing brace.
-#[tactic(auto, using(crate::proofs::Lists::declared), unfolding(crate::specs::Sources::declarations_by))]
+#[tactic(auto, using(crate::proofs::Loop::declared), unfolding(crate::specs::Sources::declared_by))]
 fn declarations_at<'a>(
     alloc: Global,
     tokens: &'a [Placed],
 ) -> Result<Option<(Sequence<Declaration>, &'a [Placed])>, Memory>
     ensures { IfOk result (λ found. option_map (λ f. (f.0, tokens_of f.1.now)) found
-        ≡ declarations_by (length (tokens_of tokens.now)) [] (tokens_of tokens.now)) }
+        ≡ declared_by (length (tokens_of tokens.now)) [] (tokens_of tokens.now)) }
 {
     let mut declarations = Sequence::new(alloc);
     let mut rest = tokens;

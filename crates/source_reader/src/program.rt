@@ -50,7 +50,7 @@ fn client_at<'a>(
 }
 
 // Further clients behind those that are there.
-#[tactic(auto, using(crate::proofs::Lists::clients), unfolding(crate::specs::Sources::clients_by))]
+#[tactic(auto, using(crate::proofs::Loop::clients), unfolding(crate::specs::Sources::clients_by))]
 fn clients_at<'a>(
     alloc: Global,
     depth: usize,

@@ -84,7 +84,7 @@ fn item_at<'a>(alloc: Global, tokens: &'a [Placed]) -> Result<Option<(Item, &'a 
 }
 
 // The items of a schedule, up to the closing brace.
-#[tactic(auto, using(crate::proofs::Lists::items), unfolding(crate::specs::Sources::items_by))]
+#[tactic(auto, using(crate::proofs::Loop::items), unfolding(crate::specs::Sources::items_by))]
 fn items_at<'a>(
     alloc: Global,
     tokens: &'a [Placed],

@@ -136,5 +136,5 @@ comment_long (b ∷ bytes) h =
     omega (arith, ap length (front_by (λ b. not (b == 10)) b bytes (ap (λ b. not (b == 10)) first)))
 
 -- a comment takes a byte at least, and no more than there are
-pub comment_fits : (text : List ℕ) → starts_with nat_eq text (codes "//") ≡ true → (1 ≤ comment_length text) × (comment_length text ≤ length text)
-comment_fits text h = (comment_long text ((starts_is Decides-eqb text (codes "//") true (sym h)).0 refl), front_le (λ b. not (b == 10)) text)
+pub comments : (text : List ℕ) → starts_with nat_eq text (codes "//") ≡ true → (1 ≤ comment_length text) × (comment_length text ≤ length text)
+comments text h = (comment_long text ((starts_is Decides-eqb text (codes "//") true (sym h)).0 refl), front_le (λ b. not (b == 10)) text)

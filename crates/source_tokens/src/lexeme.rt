@@ -229,7 +229,7 @@ fn symbol_lexeme(text: &[u8]) -> Option<Lexeme>
 }
 
 // What stands at the front of a text, and None where nothing does.
-#[tactic(auto, using(crate::proofs::Fronts::comment_fits), unfolding(crate::specs::Lexemes::lexeme_at))]
+#[tactic(auto, using(crate::proofs::Fronts::comments), unfolding(crate::specs::Lexemes::lexeme_at))]
 pub fn lexeme_at(alloc: Global, text: &[u8]) -> Result<Option<Lexeme>, Memory>
     ensures lexeme { IfOk result (λ found. found ≡ lexeme_at text.now) }
     ensures within { IfOk result

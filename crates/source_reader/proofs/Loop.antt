@@ -10,7 +10,7 @@ use Rattle.source_tree.specs.declared.program.Declaration.{Declaration}
 use Rattle.source_tree.specs.declared.program.Item.{Item}
 use Rattle.source_tree.specs.declared.program.Client.{Client}
 use Rattle.source_reader.specs.Reading.{Reads, ◌>>=◌, behind}
-use Rattle.source_reader.specs.Sources.{key_at, key_list_by, property_at, property_list_by, declaration_at, declarations_by, item_at, items_by, client_by, clients_by}
+use Rattle.source_reader.specs.Sources.{key_at, key_list_by, property_at, properties_by, declaration_at, declared_by, item_at, items_by, client_by, clients_by}
 
 pub key_list_step : (m n : ℕ) (xs : List Key) (x : Key) (tokens after rest : List Token) → n < m → key_at tokens ≡ Some (x, after) → behind t.Comma after ≡ Some rest
     → key_list_by (m - n) xs tokens ≡ key_list_by (m - (n + 1)) (xs ++ x ∷ []) rest
@@ -34,54 +34,54 @@ pub key_list_fails : (m n : ℕ) (xs : List Key) (tokens : List Token) → n < m
 unfolding key_list_by
 key_list_fails m n xs tokens more read = let count : m - n ≡ suc (m - (n + 1)) = omega arith in rw (count, key_list_by, read) refl
 
-pub property_list_closed : (m n : ℕ) (xs : List Property) (tokens rest : List Token) → n < m → behind t.CloseBrace tokens ≡ Some rest → property_list_by (m - n) xs tokens ≡ Some (xs, rest)
-unfolding property_list_by
+pub property_list_closed : (m n : ℕ) (xs : List Property) (tokens rest : List Token) → n < m → behind t.CloseBrace tokens ≡ Some rest → properties_by (m - n) xs tokens ≡ Some (xs, rest)
+unfolding properties_by
 property_list_closed m n xs tokens rest more is =
     let count : m - n ≡ suc (m - (n + 1)) = omega arith in
-    rw (count, property_list_by) (ap (λ o. elim o [ Some rest ↦ Some (xs, rest) | None ↦ property_at tokens >>= λ property. elim (behind t.Semicolon property.1) [ Some rest ↦ property_list_by (m - (n + 1)) (xs ++ property.0 ∷ []) rest | None ↦ behind t.CloseBrace property.1 >>= λ rest. Some (xs ++ property.0 ∷ [], rest) ] ]) is)
+    rw (count, properties_by) (ap (λ o. elim o [ Some rest ↦ Some (xs, rest) | None ↦ property_at tokens >>= λ property. elim (behind t.Semicolon property.1) [ Some rest ↦ properties_by (m - (n + 1)) (xs ++ property.0 ∷ []) rest | None ↦ behind t.CloseBrace property.1 >>= λ rest. Some (xs ++ property.0 ∷ [], rest) ] ]) is)
 
-pub property_list_fails : (m n : ℕ) (xs : List Property) (tokens : List Token) → n < m → behind t.CloseBrace tokens ≡ None → property_at tokens ≡ None → property_list_by (m - n) xs tokens ≡ None
-unfolding property_list_by
+pub property_list_fails : (m n : ℕ) (xs : List Property) (tokens : List Token) → n < m → behind t.CloseBrace tokens ≡ None → property_at tokens ≡ None → properties_by (m - n) xs tokens ≡ None
+unfolding properties_by
 property_list_fails m n xs tokens more is read =
     let count : m - n ≡ suc (m - (n + 1)) = omega arith in
-    rw (count, property_list_by) (ap (λ o. elim o [ Some rest ↦ Some (xs, rest) | None ↦ property_at tokens >>= λ property. elim (behind t.Semicolon property.1) [ Some rest ↦ property_list_by (m - (n + 1)) (xs ++ property.0 ∷ []) rest | None ↦ behind t.CloseBrace property.1 >>= λ rest. Some (xs ++ property.0 ∷ [], rest) ] ]) is ∙ ap (λ o. o >>= λ property. elim (behind t.Semicolon property.1) [ Some rest ↦ property_list_by (m - (n + 1)) (xs ++ property.0 ∷ []) rest | None ↦ behind t.CloseBrace property.1 >>= λ rest. Some (xs ++ property.0 ∷ [], rest) ]) read)
+    rw (count, properties_by) (ap (λ o. elim o [ Some rest ↦ Some (xs, rest) | None ↦ property_at tokens >>= λ property. elim (behind t.Semicolon property.1) [ Some rest ↦ properties_by (m - (n + 1)) (xs ++ property.0 ∷ []) rest | None ↦ behind t.CloseBrace property.1 >>= λ rest. Some (xs ++ property.0 ∷ [], rest) ] ]) is ∙ ap (λ o. o >>= λ property. elim (behind t.Semicolon property.1) [ Some rest ↦ properties_by (m - (n + 1)) (xs ++ property.0 ∷ []) rest | None ↦ behind t.CloseBrace property.1 >>= λ rest. Some (xs ++ property.0 ∷ [], rest) ]) read)
 
 pub property_list_step : (m n : ℕ) (xs : List Property) (x : Property) (tokens after rest : List Token) → n < m → behind t.CloseBrace tokens ≡ None → property_at tokens ≡ Some (x, after)
-    → behind t.Semicolon after ≡ Some rest → property_list_by (m - n) xs tokens ≡ property_list_by (m - (n + 1)) (xs ++ x ∷ []) rest
-unfolding property_list_by
+    → behind t.Semicolon after ≡ Some rest → properties_by (m - n) xs tokens ≡ properties_by (m - (n + 1)) (xs ++ x ∷ []) rest
+unfolding properties_by
 property_list_step m n xs x tokens after rest more is read next =
     let count : m - n ≡ suc (m - (n + 1)) = omega arith in
-    rw (count, property_list_by) (ap (λ o. elim o [ Some rest ↦ Some (xs, rest) | None ↦ property_at tokens >>= λ property. elim (behind t.Semicolon property.1) [ Some rest ↦ property_list_by (m - (n + 1)) (xs ++ property.0 ∷ []) rest | None ↦ behind t.CloseBrace property.1 >>= λ rest. Some (xs ++ property.0 ∷ [], rest) ] ]) is ∙ ap (λ o. o >>= λ property. elim (behind t.Semicolon property.1) [ Some rest ↦ property_list_by (m - (n + 1)) (xs ++ property.0 ∷ []) rest | None ↦ behind t.CloseBrace property.1 >>= λ rest. Some (xs ++ property.0 ∷ [], rest) ]) read ∙ ap (λ o. elim o [ Some rest ↦ property_list_by (m - (n + 1)) (xs ++ x ∷ []) rest | None ↦ behind t.CloseBrace after >>= λ rest. Some (xs ++ x ∷ [], rest) ]) next)
+    rw (count, properties_by) (ap (λ o. elim o [ Some rest ↦ Some (xs, rest) | None ↦ property_at tokens >>= λ property. elim (behind t.Semicolon property.1) [ Some rest ↦ properties_by (m - (n + 1)) (xs ++ property.0 ∷ []) rest | None ↦ behind t.CloseBrace property.1 >>= λ rest. Some (xs ++ property.0 ∷ [], rest) ] ]) is ∙ ap (λ o. o >>= λ property. elim (behind t.Semicolon property.1) [ Some rest ↦ properties_by (m - (n + 1)) (xs ++ property.0 ∷ []) rest | None ↦ behind t.CloseBrace property.1 >>= λ rest. Some (xs ++ property.0 ∷ [], rest) ]) read ∙ ap (λ o. elim o [ Some rest ↦ properties_by (m - (n + 1)) (xs ++ x ∷ []) rest | None ↦ behind t.CloseBrace after >>= λ rest. Some (xs ++ x ∷ [], rest) ]) next)
 
 pub property_list_end : (m n : ℕ) (xs : List Property) (x : Property) (tokens after : List Token) → n < m → behind t.CloseBrace tokens ≡ None → property_at tokens ≡ Some (x, after)
-    → behind t.Semicolon after ≡ None → property_list_by (m - n) xs tokens ≡ (behind t.CloseBrace after >>= λ rest. Some (xs ++ x ∷ [], rest))
-unfolding property_list_by
+    → behind t.Semicolon after ≡ None → properties_by (m - n) xs tokens ≡ (behind t.CloseBrace after >>= λ rest. Some (xs ++ x ∷ [], rest))
+unfolding properties_by
 property_list_end m n xs x tokens after more is read next =
     let count : m - n ≡ suc (m - (n + 1)) = omega arith in
-    rw (count, property_list_by) (ap (λ o. elim o [ Some rest ↦ Some (xs, rest) | None ↦ property_at tokens >>= λ property. elim (behind t.Semicolon property.1) [ Some rest ↦ property_list_by (m - (n + 1)) (xs ++ property.0 ∷ []) rest | None ↦ behind t.CloseBrace property.1 >>= λ rest. Some (xs ++ property.0 ∷ [], rest) ] ]) is ∙ ap (λ o. o >>= λ property. elim (behind t.Semicolon property.1) [ Some rest ↦ property_list_by (m - (n + 1)) (xs ++ property.0 ∷ []) rest | None ↦ behind t.CloseBrace property.1 >>= λ rest. Some (xs ++ property.0 ∷ [], rest) ]) read ∙ ap (λ o. elim o [ Some rest ↦ property_list_by (m - (n + 1)) (xs ++ x ∷ []) rest | None ↦ behind t.CloseBrace after >>= λ rest. Some (xs ++ x ∷ [], rest) ]) next)
+    rw (count, properties_by) (ap (λ o. elim o [ Some rest ↦ Some (xs, rest) | None ↦ property_at tokens >>= λ property. elim (behind t.Semicolon property.1) [ Some rest ↦ properties_by (m - (n + 1)) (xs ++ property.0 ∷ []) rest | None ↦ behind t.CloseBrace property.1 >>= λ rest. Some (xs ++ property.0 ∷ [], rest) ] ]) is ∙ ap (λ o. o >>= λ property. elim (behind t.Semicolon property.1) [ Some rest ↦ properties_by (m - (n + 1)) (xs ++ property.0 ∷ []) rest | None ↦ behind t.CloseBrace property.1 >>= λ rest. Some (xs ++ property.0 ∷ [], rest) ]) read ∙ ap (λ o. elim o [ Some rest ↦ properties_by (m - (n + 1)) (xs ++ x ∷ []) rest | None ↦ behind t.CloseBrace after >>= λ rest. Some (xs ++ x ∷ [], rest) ]) next)
 
 pub property_list_last : (m n : ℕ) (xs : List Property) (x : Property) (tokens after rest : List Token) → n < m → behind t.CloseBrace tokens ≡ None → property_at tokens ≡ Some (x, after)
-    → behind t.Semicolon after ≡ None → behind t.CloseBrace after ≡ Some rest → property_list_by (m - n) xs tokens ≡ Some (xs ++ x ∷ [], rest)
+    → behind t.Semicolon after ≡ None → behind t.CloseBrace after ≡ Some rest → properties_by (m - n) xs tokens ≡ Some (xs ++ x ∷ [], rest)
 property_list_last m n xs x tokens after rest more is read next closed = property_list_end m n xs x tokens after more is read next ∙ ap (λ o. o >>= λ rest. Some (xs ++ x ∷ [], rest)) closed
 
-pub declarations_closed : (m n : ℕ) (xs : List Declaration) (tokens rest : List Token) → n < m → behind t.CloseBrace tokens ≡ Some rest → declarations_by (m - n) xs tokens ≡ Some (xs, rest)
-unfolding declarations_by
+pub declarations_closed : (m n : ℕ) (xs : List Declaration) (tokens rest : List Token) → n < m → behind t.CloseBrace tokens ≡ Some rest → declared_by (m - n) xs tokens ≡ Some (xs, rest)
+unfolding declared_by
 declarations_closed m n xs tokens rest more is =
     let count : m - n ≡ suc (m - (n + 1)) = omega arith in
-    rw (count, declarations_by) (ap (λ o. elim o [ Some rest ↦ Some (xs, rest) | None ↦ declaration_at tokens >>= λ declaration. declarations_by (m - (n + 1)) (xs ++ declaration.0 ∷ []) declaration.1 ]) is)
+    rw (count, declared_by) (ap (λ o. elim o [ Some rest ↦ Some (xs, rest) | None ↦ declaration_at tokens >>= λ declaration. declared_by (m - (n + 1)) (xs ++ declaration.0 ∷ []) declaration.1 ]) is)
 
-pub declarations_fail : (m n : ℕ) (xs : List Declaration) (tokens : List Token) → n < m → behind t.CloseBrace tokens ≡ None → declaration_at tokens ≡ None → declarations_by (m - n) xs tokens ≡ None
-unfolding declarations_by
+pub declarations_fail : (m n : ℕ) (xs : List Declaration) (tokens : List Token) → n < m → behind t.CloseBrace tokens ≡ None → declaration_at tokens ≡ None → declared_by (m - n) xs tokens ≡ None
+unfolding declared_by
 declarations_fail m n xs tokens more is read =
     let count : m - n ≡ suc (m - (n + 1)) = omega arith in
-    rw (count, declarations_by) (ap (λ o. elim o [ Some rest ↦ Some (xs, rest) | None ↦ declaration_at tokens >>= λ declaration. declarations_by (m - (n + 1)) (xs ++ declaration.0 ∷ []) declaration.1 ]) is ∙ ap (λ o. o >>= λ declaration. declarations_by (m - (n + 1)) (xs ++ declaration.0 ∷ []) declaration.1) read)
+    rw (count, declared_by) (ap (λ o. elim o [ Some rest ↦ Some (xs, rest) | None ↦ declaration_at tokens >>= λ declaration. declared_by (m - (n + 1)) (xs ++ declaration.0 ∷ []) declaration.1 ]) is ∙ ap (λ o. o >>= λ declaration. declared_by (m - (n + 1)) (xs ++ declaration.0 ∷ []) declaration.1) read)
 
 pub declarations_step : (m n : ℕ) (xs : List Declaration) (x : Declaration) (tokens rest : List Token) → n < m → behind t.CloseBrace tokens ≡ None → declaration_at tokens ≡ Some (x, rest)
-    → declarations_by (m - n) xs tokens ≡ declarations_by (m - (n + 1)) (xs ++ x ∷ []) rest
-unfolding declarations_by
+    → declared_by (m - n) xs tokens ≡ declared_by (m - (n + 1)) (xs ++ x ∷ []) rest
+unfolding declared_by
 declarations_step m n xs x tokens rest more is read =
     let count : m - n ≡ suc (m - (n + 1)) = omega arith in
-    rw (count, declarations_by) (ap (λ o. elim o [ Some rest ↦ Some (xs, rest) | None ↦ declaration_at tokens >>= λ declaration. declarations_by (m - (n + 1)) (xs ++ declaration.0 ∷ []) declaration.1 ]) is ∙ ap (λ o. o >>= λ declaration. declarations_by (m - (n + 1)) (xs ++ declaration.0 ∷ []) declaration.1) read)
+    rw (count, declared_by) (ap (λ o. elim o [ Some rest ↦ Some (xs, rest) | None ↦ declaration_at tokens >>= λ declaration. declared_by (m - (n + 1)) (xs ++ declaration.0 ∷ []) declaration.1 ]) is ∙ ap (λ o. o >>= λ declaration. declared_by (m - (n + 1)) (xs ++ declaration.0 ∷ []) declaration.1) read)
 
 pub items_closed : (m n : ℕ) (xs : List Item) (tokens rest : List Token) → n < m → behind t.CloseBrace tokens ≡ Some rest → items_by (m - n) xs tokens ≡ Some (xs, rest)
 unfolding items_by
@@ -122,7 +122,7 @@ clients_end (suc k) block xs tokens is = ap (λ o. elim o [ None ↦ Some (xs, t
 
 pub ruleset keys = (key_list_step, key_list_end)
 
-pub ruleset properties = (property_list_step, property_list_end, property_list_closed, property_list_fails)
+pub ruleset listed = (property_list_step, property_list_end, property_list_closed, property_list_fails)
 
 pub ruleset declared = (declarations_step, declarations_closed, declarations_fail)
 
