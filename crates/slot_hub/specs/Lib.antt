@@ -1,0 +1,4 @@
+pub mod Runs
+pub mod Boxes
+pub mod Trades
+pub mod Plain
