@@ -91,7 +91,7 @@ module _ {S P R : Type 0} where
     pub free : OnOk result (FindsFree (inbox c) old now)
     pub busy : IfErr result (λ busy. IsBusy (inbox c) new busy old now)
 
-  -- The server is taken, which is of the run.
+  -- The server is taken, which is of the run. That counts as no look at a box.
   pub record TakesServer (of_run : S → Named → Type 0) (result : Result S (Busy Unit)) (old now : Seen S P R) : Type 0 where
     pub keeps : Keeps old now
     pub taken : now.taken ≡ old.taken
@@ -100,15 +100,17 @@ module _ {S P R : Type 0} where
     pub server : IfOk result (λ server. of_run server old.run)
     pub told : IfOk result (λ server. Told (Moves (Some server) None) old.boxes now.boxes)
     pub free : OnOk result (now.busies ≡ old.busies)
+    pub looks : (slot : Slot) → slot ≢ home → now.looks slot ≡ old.looks slot
     pub busy : IfErr result (λ busy. IsBusy home tt busy old now)
 
-  -- the server is given back
+  -- The server is given back. That counts as no look at all.
   pub record GivesServer (server : S) (old now : Seen S P R) : Type 0 where
     pub keeps : Keeps old now
     pub taken : now.taken ≡ old.taken
     pub took : now.took ≡ false
     pub told : Told (Moves None (Some server)) old.boxes now.boxes
     pub free : now.busies ≡ old.busies
+    pub looks : now.looks ≡ old.looks
 
 -- a reply that is put in isn't taken, one that comes out for nothing is, and an empty inbox leaves the round
 pub example_rounds : (taken_round {R = ℕ} (λ r. r) (Some 5) (Some 4) 3 ≡ 3) × (taken_round {R = ℕ} (λ r. r) None (Some 4) 3 ≡ 4)
