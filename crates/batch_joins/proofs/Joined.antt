@@ -3,6 +3,7 @@ use Rattle.std.proofs.Common.{◌≡◌, ℕ, ◌+◌, ◌≤◌, List, [], ◌�
 use mathlib.Core.List.{IsPrefix}
 use Rattle.std.proofs.lemmas.Bool.{cases_eq}
 use Rattle.std.proofs.lemmas.List.{length-append, append_assoc, take-append-le, length-take-le}
+use Rattle.std.specs.List.{AllByRecursion}
 use Rattle.cloud_base.specs.Events.{updates_of}
 use Rattle.cloud_base.specs.Shaped.{CreatedOnce}
 use Rattle.cloud_base.specs.declared.batch.Batch.{Batch}
@@ -14,13 +15,35 @@ use Rattle.batch_history.specs.Sound.{EachFrom, FitsBehind, SoundBatches}
 use Rattle.batch_history.specs.Right.{RightEvents, RightBehind, RightBatches}
 use Rattle.batch_history.proofs.Clients.{of_client-here, of_client-else, of_client-last}
 use Rattle.batch_history.proofs.Fronts.{flat_front, flat_all, sound_front}
-use Rattle.batch_joins.specs.Joins.{all_updates, Follows}
+use Rattle.batch_joins.specs.Joins.{all_updates, FitsAlone, Follows, RightOwn}
 use Rattle.batch_joins.proofs.Prefixes.{prefix_length, prefix_take}
-use Rattle.batch_joins.proofs.Own.{all_own, joined_once}
+use Rattle.batch_joins.proofs.Own.{own_prefix, all_own, joined_once}
 
 pub each_last : {A : Type 0} (P : List A → A → Type 0) (before xs : List A) (x : A) → EachFrom P before xs → P (before ++ xs) x → EachFrom P before (xs ++ x ∷ [])
 each_last P before [] x each last = (subst (λ (l : List _). P l x) (append-nil before) last, tt)
 each_last P before (y ∷ xs) x each last = (each.0, each_last P (before ++ y ∷ []) xs x each.1 (subst (λ (l : List _). P l x) (sym (append_assoc before (y ∷ []) xs)) last))
+
+-- the last of a list, behind the others
+last_of_each : {A : Type 0} (P : List A → A → Type 0) (before xs : List A) (x : A) → EachFrom P before (xs ++ x ∷ []) → P (before ++ xs) x
+last_of_each P before [] x each = subst (λ (l : List _). P l x) (sym (append-nil before)) each.0
+last_of_each P before (y ∷ xs) x each = subst (λ (l : List _). P l x) (append_assoc before (y ∷ []) xs) (last_of_each P (before ++ y ∷ []) xs x each.1)
+
+last_of_all : {A : Type 0} (P : A → Type 0) (xs : List A) (x : A) → AllByRecursion P (xs ++ x ∷ []) → P x
+last_of_all P [] x all = all.0
+last_of_all P (y ∷ xs) x all = last_of_all P xs x all.1
+
+-- the push's batch, behind the others of its client
+pub alone : (past own : List Batch) (b : Batch) → Follows past own b → FitsAlone (of_client b.client (take b.base past)) b
+alone past own b follows = last_of_each FitsAlone [] (of_client b.client (take b.base past)) b (subst (λ (l : List Batch). EachFrom FitsAlone [] l) follows.last follows.each)
+
+-- no round is left out
+pub no_gap : (whole past own : List Batch) (b : Batch) → IsPrefix past whole → Follows past own b → b.round ≤ length (of_client b.client whole) + 1
+no_gap whole past own b front follows =
+    let below : take b.base past ≡ take b.base whole = sym (take-append-le b.base past front.0 follows.base) ∙ ap (λ (l : List Batch). take b.base l) front.1 in
+    let few = prefix_length (of_client b.client (take b.base whole)) (of_client b.client whole) (own_prefix b.client (take b.base whole) whole (prefix_take b.base whole)) in
+    let same : length (of_client b.client (take b.base past)) ≡ length (of_client b.client (take b.base whole)) = ap (λ (l : List Batch). length (of_client b.client l)) below in
+    let round : b.round ≡ length (of_client b.client (take b.base past)) + 1 = (alone past own b follows).round in
+    omega arith
 
 take_front : (past whole : List Batch) (n : ℕ) → IsPrefix past whole → n ≤ length past → take n past ≡ take n whole
 take_front past whole n p le = sym (take-append-le n past p.0 le) ∙ ap (λ (l : List Batch). take n l) p.1
@@ -32,9 +55,8 @@ module _ (whole past own : List Batch) (b : Batch) (sound : SoundBatches whole) 
   -- what is below the base has all of the client's batches
   pub known : of_client b.client (take b.base past) ≡ of_client b.client whole
   known =
-      let count : length own ≡ length (of_client b.client (take b.base past)) + 1 = ap (λ (l : List Batch). length l) follows.last ∙ length-append (of_client b.client (take b.base past)) (b ∷ []) in
       let same : length (of_client b.client (take b.base past)) ≡ length (of_client b.client (take b.base whole)) = ap (λ (l : List Batch). length (of_client b.client l)) below in
-      let round = follows.round in
+      let round : b.round ≡ length (of_client b.client (take b.base past)) + 1 = (alone past own b follows).round in
       ap (λ (l : List Batch). of_client b.client l) below ∙ all_own b.client (take b.base whole) whole (prefix_take b.base whole) (omega arith)
 
   pub fits : FitsBehind whole b
@@ -42,11 +64,11 @@ module _ (whole past own : List Batch) (b : Batch) (sound : SoundBatches whole) 
     round = next;
     base = let longer = prefix_length past whole front in let base = follows.base in omega arith;
     known = ap (λ (l : List Batch). of_client b.client l) (sym below) ∙ known;
-    opens = follows.opens;
-    first = follows.first;
-    before = follows.before;
-    rest = follows.rest;
-    own = follows.mine;
+    opens = (alone past own b follows).opens;
+    first = (alone past own b follows).first;
+    before = (alone past own b follows).before;
+    rest = (alone past own b follows).rest;
+    own = (alone past own b follows).mine;
   }
 
   pub own_joined : of_client b.client (whole ++ b ∷ []) ≡ own
@@ -57,7 +79,7 @@ module _ (whole past own : List Batch) (b : Batch) (sound : SoundBatches whole) 
       let own_is : all_updates own ≡ all_updates (of_client b.client whole) ++ updates_in b = ap all_updates (follows.last ∙ ap (λ (l : List Batch). l ++ b ∷ []) known)
       ∙ flat_all (of_client b.client whole) (b ∷ [])
       ∙ ap (λ (l : List Update). all_updates (of_client b.client whole) ++ l) (append-nil (updates_in b)) in
-      joined_once b.client whole (updates_in b) sound follows.mine (subst CreatedOnce own_is follows.once)
+      joined_once b.client whole (updates_in b) sound (alone past own b follows).mine (subst CreatedOnce own_is follows.once)
 
   pub joined_sound : SoundBatches (whole ++ b ∷ [])
   joined_sound = record {
@@ -104,5 +126,8 @@ module _ (is_answer : List Update → Query → Answer → Type 0) (whole past o
         rest = subst (λ (l : List Update). RightEvents is_answer (l ++ updates_of b.before) b.rest) (sym since) right.rest;
       }
 
-  pub right_batches : RightBatches is_answer whole → RightBehind is_answer (take b.base past) b → RightBatches is_answer (whole ++ b ∷ [])
-  right_batches each right = each_last (RightBehind is_answer) [] whole b each (right_joined right)
+  pub right_batches : RightBatches is_answer whole → RightOwn is_answer past own → RightBatches is_answer (whole ++ b ∷ [])
+  right_batches each right =
+      let behind = last_of_all (λ (x : Batch). RightBehind is_answer (take x.base past) x) (of_client b.client (take b.base past)) b
+      (subst (λ (l : List Batch). RightOwn is_answer past l) follows.last right) in
+      each_last (RightBehind is_answer) [] whole b each (right_joined behind)

@@ -1,8 +1,9 @@
 -- A client's batches in a record and in a front of it, and the ids that they create.
-use Rattle.std.proofs.Common.{◌≡◌, ℕ, ◌<◌, ◌≤◌, List, [], ◌∷◌, ◌++◌, length, ap, sym, subst, ◌∙◌, arith, inl, inr}
+use Rattle.std.proofs.Common.{◌≡◌, ℕ, ◌<◌, ◌≤◌, List, [], ◌∷◌, ◌++◌, length, take, drop, ap, sym, subst, ◌∙◌, arith, inl, inr}
 use Rattle.std.specs.Prelude.{All, Contains}
 use mathlib.Core.List.{IsPrefix}
 use Rattle.std.proofs.lemmas.Bool.{cases_eq, cases_lt}
+use Rattle.std.proofs.lemmas.List.{take-append-drop, length-take-le}
 use Rattle.std.proofs.lemmas.List.Elements.{Contains-append_left, Contains-append_right, Contains-append_cases, All-contains, All-append}
 use Rattle.cloud_base.specs.Alike.{IsPart}
 use Rattle.cloud_base.specs.Log.{created}
@@ -11,14 +12,14 @@ use Rattle.cloud_base.specs.Values.{Id}
 use Rattle.cloud_base.specs.declared.batch.Batch.{Batch}
 use Rattle.cloud_base.specs.declared.schema.Schema.{Schema}
 use Rattle.cloud_base.specs.declared.update.Update.{Update}
-use Rattle.cloud_base.proofs.LogLemmas.{part_left, part_right, created_parts, created_once_parts, parts_created_once}
+use Rattle.cloud_base.proofs.LogLemmas.{part_append, part_left, part_right, created_parts, created_once_parts, parts_created_once}
 use Rattle.cloud_base.proofs.SortedLemmas.{none_in, split_member}
-use Rattle.batch_history.specs.Batches.{updates_in, of_client}
+use Rattle.batch_history.specs.Batches.{updates_in, flat, of_client}
 use Rattle.batch_history.specs.Sound.{EachFrom, FitsBehind, CreatedBy, SoundBatches}
 use Rattle.batch_history.proofs.Clients.{of_client-append, of_client-here, of_client-else}
-use Rattle.batch_history.proofs.Fronts.{flat_all}
+use Rattle.batch_history.proofs.Fronts.{flat_front, flat_all}
 use Rattle.batch_joins.specs.Joins.{all_updates}
-use Rattle.batch_joins.proofs.Prefixes.{prefix_shorter, prefix_whole, prefix_length}
+use Rattle.batch_joins.proofs.Prefixes.{prefix_shorter, prefix_whole, prefix_length, prefix_take}
 
 pub own_prefix : (c : ℕ) (front whole : List Batch) → IsPrefix front whole → IsPrefix (of_client c front) (of_client c whole)
 own_prefix c front whole p = (of_client c p.0, sym (of_client-append c front p.0) ∙ ap (λ (t : List Batch). of_client c t) p.1)
@@ -48,6 +49,18 @@ batch_part (x ∷ whole) b h = elim (split_member x b whole h) [
   | inl e ↦ subst (λ (y : Batch). IsPart (updates_in b) (updates_in y ++ all_updates whole)) (sym e) (part_left (updates_in b) (all_updates whole))
   | inr m ↦ λ u k. part_right (updates_in x) (all_updates whole) u (batch_part whole b m u k)
 ]
+
+-- what a client had seen, and a batch of the record, are part of the record
+pub pulled_part : (front whole : List Batch) (b : Batch) → IsPrefix front whole → Contains whole b → IsPart (all_updates front ++ updates_in b) (all_updates whole)
+pulled_part front whole b p h = part_append (all_updates front) (updates_in b) (all_updates whole) (front_part front whole p) (batch_part whole b h)
+
+-- and so is what is below a base
+pub based_part : (front whole : List Batch) (n : ℕ) → IsPrefix front whole → n ≤ length front → IsPart (flat front n) (all_updates whole)
+based_part front whole n p le =
+    let below = take n front in
+    let count : length below ≡ n = length-take-le n front le in
+    let cut : flat front n ≡ all_updates below = ap (λ (l : List Batch). flat l n) (sym (take-append-drop n front)) ∙ flat_front below (drop n front) n (omega arith) ∙ ap (λ (k : ℕ). flat below k) (sym count) in
+    subst (λ (l : List Update). IsPart l (all_updates whole)) (sym cut) (λ u h. front_part front whole p u (front_part below front (prefix_take n front) u h))
 
 -- an id that is a client's is created in one of its batches
 own_created : (c : ℕ) (before whole : List Batch) → EachFrom FitsBehind before whole → (id : Id) → id.client ≡ c → Contains (created (all_updates whole)) id → Contains (created (all_updates (of_client c whole))) id

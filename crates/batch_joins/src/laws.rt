@@ -1,5 +1,5 @@
 // Laws of records that grow.
-ghost use Rattle.std.specs.Prelude.{◌≡◌, ℕ, ◌+◌, ◌≤◌, ◌<◌, List, [], ◌∷◌, ◌++◌, length, take, All};
+ghost use Rattle.std.specs.Prelude.{◌≡◌, ℕ, ◌+◌, ◌≤◌, ◌<◌, List, [], ◌∷◌, ◌++◌, length, All};
 ghost use Rattle.std.specs.Prelude.{Contains};
 ghost use mathlib.Core.List.{IsPrefix};
 ghost use Rattle.cloud_base.specs.Alike.{IsPart};
@@ -9,14 +9,14 @@ ghost use Rattle.cloud_base.specs.declared.schema.Schema.{Schema};
 ghost use Rattle.cloud_base.specs.declared.update.Answer.{Answer};
 ghost use Rattle.cloud_base.specs.declared.update.Query.{Query};
 ghost use Rattle.cloud_base.specs.declared.update.Update.{Update};
-ghost use Rattle.batch_history.specs.Batches.{updates_in, of_client};
+ghost use Rattle.batch_history.specs.Batches.{updates_in, flat, of_client};
 ghost use Rattle.batch_history.specs.Sound.{CreatedBy, SoundBatches};
-ghost use Rattle.batch_history.specs.Right.{IsThatOf, RightBehind, RightBatches};
-ghost use Rattle.batch_joins.specs.Joins.{all_updates, Follows};
+ghost use Rattle.batch_history.specs.Right.{IsThatOf, RightBatches};
+ghost use Rattle.batch_joins.specs.Joins.{all_updates, Follows, RightOwn};
 
 /// Of two fronts of one record, the one with more of a client's batches is the longer. A front with
-/// as many of them as the record has all of them. The updates of a front, and those of a batch,
-/// are among the record's.
+/// as many of them as the record has all of them. What a client had seen at a pull, or below a base
+/// of its push, is part of the record.
 pub fn fronts_of_one_record()
     ensures longer { (c : ℕ) (front other batches : List Batch) → IsPrefix front batches
         → IsPrefix other batches → length (of_client c front) < length (of_client c other)
@@ -24,10 +24,11 @@ pub fn fronts_of_one_record()
     ensures all { (c : ℕ) (front batches : List Batch) → IsPrefix front batches
         → length (of_client c batches) ≤ length (of_client c front)
         → of_client c front ≡ of_client c batches }
-    ensures fronts { (front batches : List Batch) → IsPrefix front batches
-        → IsPart (all_updates front) (all_updates batches) }
-    ensures batches { (batches : List Batch) (b : Batch) → Contains batches b
-        → IsPart (updates_in b) (all_updates batches) }
+    ensures pulled { (front batches : List Batch) (b : Batch) → IsPrefix front batches
+        → Contains batches b
+        → IsPart (all_updates front ++ updates_in b) (all_updates batches) }
+    ensures based { (front batches : List Batch) (base : ℕ) → IsPrefix front batches
+        → base ≤ length front → IsPart (flat front base) (all_updates batches) }
 {}
 
 /// What a client does behind its own batches makes, behind the whole record, a log that creates no
@@ -42,9 +43,12 @@ pub fn own_updates_join()
         → Fit schema (all_updates batches ++ more) }
 {}
 
-/// The next batch of a client, which follows a front of a sound record, makes a longer sound record
-/// that has just its client's own batches, and is answered right where it was so at its base.
+/// A push of a round above the next can't be. The next batch of a client, which follows a front of a
+/// sound record, makes a longer sound record that has just its client's own batches, and is answered
+/// right where they were so.
 pub fn next_batches_join()
+    ensures no_gap { (batches past own : List Batch) (b : Batch) → IsPrefix past batches
+        → Follows past own b → b.round ≤ length (of_client b.client batches) + 1 }
     ensures sound { (batches past own : List Batch) (b : Batch) → SoundBatches batches
         → IsPrefix past batches → Follows past own b
         → b.round ≡ length (of_client b.client batches) + 1 → SoundBatches (batches ++ b ∷ []) }
@@ -56,6 +60,6 @@ pub fn next_batches_join()
         (b : Batch) → SoundBatches batches
         → IsPrefix past batches → Follows past own b
         → b.round ≡ length (of_client b.client batches) + 1 → RightBatches (IsThatOf answers) batches
-        → RightBehind (IsThatOf answers) (take b.base past) b
+        → RightOwn (IsThatOf answers) past own
         → RightBatches (IsThatOf answers) (batches ++ b ∷ []) }
 {}
