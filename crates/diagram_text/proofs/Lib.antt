@@ -1,0 +1,4 @@
+pub mod Drawings
+pub mod Upcoming
+pub mod Begun
+pub mod Few

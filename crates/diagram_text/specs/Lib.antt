@@ -1,0 +1,5 @@
+pub mod Taken
+pub mod Pens
+pub mod Agendas
+pub mod Drawable
+pub mod Parts
