@@ -1,6 +1,6 @@
 -- How many revisions are drawn: one for each batch that is pushed, at most one for each stretch that is pulled,
 -- and at most one for what was sent.
-use Rattle.std.proofs.Common.{◌≡◌, ◌∙◌, refl, sym, ap, subst, arith, ℕ, suc, ◌+◌, ◌*◌, ◌<◌, ◌≤◌, ◌≢◌, Bool, true, false, cond, List, [], ◌∷◌, ◌++◌, length, take, Option, Some, None, inl, inr}
+use Rattle.std.proofs.Common.{◌≡◌, ◌∙◌, refl, sym, ap, subst, arith, ℕ, suc, ◌+◌, ◌*◌, ◌<◌, ◌≤◌, ◌≢◌, Bool, true, false, cond, List, [], ◌∷◌, ◌++◌, length, take, append-nil, append_assoc, Option, Some, None, inl, inr}
 use Rattle.std.specs.Prelude.{◌==◌, nat_le, slice_get}
 use Rattle.std.proofs.lemmas.Bool.{cases_eq}
 use Rattle.std.proofs.lemmas.Bool.Decides.{nat_tests}
@@ -149,3 +149,10 @@ few_tail own tail c d =
 pub few_tails : (batches : List Batch) (tails : List Tail) (c : ℕ) (d : Drawing) → ((tails_from batches tails c) d).1.next ≤ d.next + length tails
 few_tails batches [] c d = omega arith
 few_tails batches (tail ∷ tails) c d = omega (arith, few_tail (of_client c batches) tail c d, few_tails batches tails (c + 1) ((tail_draws (of_client c batches) tail c) d).1)
+
+pub few_batches : (batches : List Batch) (tails : List Tail) (joined rest : List Batch) (d : Drawing) → IsFew batches tails joined d.next → IsFew batches tails (joined ++ rest) ((batches_from batches tails joined rest) d).1.next
+few_batches batches tails joined [] d h = subst (λ (l : List Batch). IsFew batches tails l d.next) (sym (append-nil joined)) h
+few_batches batches tails joined (b ∷ rest) d h =
+    let after : Drawing = ((batch_draws batches tails joined b) d).1 in
+    subst (λ (l : List Batch). IsFew batches tails l ((batches_from batches tails (joined ++ b ∷ []) rest) after).1.next) (append_assoc joined (b ∷ []) rest)
+    (few_batches batches tails (joined ++ b ∷ []) rest after (few_batch batches tails joined b d h))

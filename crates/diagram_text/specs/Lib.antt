@@ -3,3 +3,4 @@ pub mod Pens
 pub mod Agendas
 pub mod Drawable
 pub mod Parts
+pub mod Programs
