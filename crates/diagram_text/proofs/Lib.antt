@@ -5,3 +5,5 @@ pub mod Few
 pub mod Fits
 pub mod Names
 pub mod Programs
+pub mod Cuts
+pub mod Walks
