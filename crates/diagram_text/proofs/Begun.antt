@@ -50,8 +50,8 @@ began_fork took batches joined i k tails agenda sink d mid at later after within
       let f : Draws = fork_if (same_base i (next_base batches joined tail k)) k (is_zero (length (of_client k joined))) in
       let rest : Draws = forks_at batches joined i (drop (k + 1) tails) (k + 1) in
       let same : fork_if (same_base i (base_at agenda k)) k (is_zero (count_at agenda k)) ≡ f =
-          ap (λ o. fork_if (same_base i o) k (is_zero (count_at agenda k))) (is.bases k tail there.2)
-          ∙ ap (λ (n : ℕ). fork_if (same_base i (next_base batches joined tail k)) k (is_zero n)) (is.counts k within) in
+      ap (λ o. fork_if (same_base i o) k (is_zero (count_at agenda k))) (is.bases k tail there.2)
+      ∙ ap (λ (n : ℕ). fork_if (same_base i (next_base batches joined tail k)) k (is_zero n)) (is.counts k within) in
       let cut : Began took (forks_at batches joined i tails 0) (f then rest) sink d mid at = subst (λ (l : List Tail). Began took (forks_at batches joined i tails 0) (forks_at batches joined i l k) sink d mid at) split began in
       began_more took (forks_at batches joined i tails 0) f rest sink d mid at later after cut (drew_as took (fork_if (same_base i (base_at agenda k)) k (is_zero (count_at agenda k))) f mid at later after (ap (λ (g : Draws). g at) same) drew)
   | inr past ↦ absurd (omega (arith, past.0))

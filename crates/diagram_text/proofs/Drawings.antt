@@ -122,7 +122,7 @@ drew_send took sink later next c place number moved standing received same_stand
     let d : Drawing = drawing next (slots standing) (slots received) in
     let after : Drawing = drawing moved (slots (slice_set same_standing place number)) (slots same_received) in
     let set : slots (slice_set same_standing place number) ≡ put c next (slots standing) =
-        ap (λ (l : List ℕ). slots (slice_set l place number)) stays ∙ slot_set standing place number within ∙ ap (λ (x : ℕ). put x number (slots standing)) at ∙ ap (λ (n : ℕ). put c n (slots standing)) numbered in
+    ap (λ (l : List ℕ). slots (slice_set l place number)) stays ∙ slot_set standing place number within ∙ ap (λ (x : ℕ). put x number (slots standing)) at ∙ ap (λ (n : ℕ). put c n (slots standing)) numbered in
     drew_one took (send c) sink d (Fork (slots standing c) c) later after refl (same_drawing moves set (ap slots keeps)) (moves ∙ omega arith) (subst (λ (x : ℕ). Takes took sink next (Fork (slots standing x) c) later) at takes)
 
 pub drew_push : {S : Type 0} (took : S → List Step → S → Type 0) (sink mid later : S) (d after : Drawing) (c pushed : ℕ) → pushed ≡ d.standing c → Drew took (send c) sink d mid after → Takes took mid after.next (Join 0 pushed) later → Drew took (push c) sink d later after
@@ -139,7 +139,7 @@ drew_opening took sink later next c place number moved standing received same_st
     let d : Drawing = drawing next (slots standing) (slots received) in
     let after : Drawing = drawing moved (slots (slice_set same_standing place number)) (slots same_received) in
     let set : slots (slice_set same_standing place number) ≡ put c next (slots standing) =
-        ap (λ (l : List ℕ). slots (slice_set l place number)) stays ∙ slot_set standing place number within ∙ ap (λ (x : ℕ). put x number (slots standing)) at ∙ ap (λ (n : ℕ). put c n (slots standing)) numbered in
+    ap (λ (l : List ℕ). slots (slice_set l place number)) stays ∙ slot_set standing place number within ∙ ap (λ (x : ℕ). put x number (slots standing)) at ∙ ap (λ (n : ℕ). put c n (slots standing)) numbered in
     drew_one took (fork_for c true) sink d (Fork 0 c) later after refl (same_drawing moves set (ap slots keeps)) (moves ∙ omega arith) takes
 
 pub drew_received : {S : Type 0} (took : S → List Step → S → Type 0) (sink later : S) (next c place number moved : ℕ) (standing received same_standing same_received : List ℕ) → place ≡ c → place < length received
@@ -150,7 +150,7 @@ drew_received took sink later next c place number moved standing received same_s
     let d : Drawing = drawing next (slots standing) (slots received) in
     let after : Drawing = drawing moved (slots same_standing) (slots (slice_set same_received place number)) in
     let set : slots (slice_set same_received place number) ≡ put c next (slots received) =
-        ap (λ (l : List ℕ). slots (slice_set l place number)) keeps ∙ slot_set received place number within ∙ ap (λ (x : ℕ). put x number (slots received)) at ∙ ap (λ (n : ℕ). put c n (slots received)) numbered in
+    ap (λ (l : List ℕ). slots (slice_set l place number)) keeps ∙ slot_set received place number within ∙ ap (λ (x : ℕ). put x number (slots received)) at ∙ ap (λ (n : ℕ). put c n (slots received)) numbered in
     drew_one took (fork_for c false) sink d (Fork 0 c) later after refl (same_drawing moves (ap slots stays) set) (moves ∙ omega arith) takes
 
 -- whether a batch's stretch pulls

@@ -197,11 +197,13 @@ module _ (schema : Schema) (names : List (List ℕ)) where
   own_shaped : (batches : List Batch) → ((c : ℕ) → AllByRecursion (IsShapedEvent schema) (all_events (map stretch_of (of_client c batches)))) → AllByRecursion (ShapedBatch schema) batches
   own_shaped [] is = tt
   own_shaped (b ∷ batches) is =
-      let mine : AllByRecursion (IsShapedEvent schema) ((b.before ++ b.rest) ++ all_events (map stretch_of (of_client b.client batches))) = subst (λ (l : List Batch). AllByRecursion (IsShapedEvent schema) (all_events (map stretch_of l))) (of_client-here b.client b batches refl) (is b.client) in
-      (first_part (IsShapedEvent schema) (b.before ++ b.rest) (all_events (map stretch_of (of_client b.client batches))) mine, own_shaped batches (λ c. elim (cases_eq b.client c) [
-        | inl same ↦ second_part (IsShapedEvent schema) (b.before ++ b.rest) (all_events (map stretch_of (of_client c batches))) (subst (λ (l : List Batch). AllByRecursion (IsShapedEvent schema) (all_events (map stretch_of l))) (of_client-here c b batches same) (is c))
-        | inr other ↦ subst (λ (l : List Batch). AllByRecursion (IsShapedEvent schema) (all_events (map stretch_of l))) (of_client-else c b batches other) (is c)
-      ]))
+      let mine : AllByRecursion (IsShapedEvent schema) ((b.before ++ b.rest) ++ all_events (map stretch_of (of_client b.client batches))) = subst (λ (l : List Batch). AllByRecursion (IsShapedEvent schema) (all_events (map stretch_of l))) (of_client-here b.client b batches refl) (is b.client) in (
+        first_part (IsShapedEvent schema) (b.before ++ b.rest) (all_events (map stretch_of (of_client b.client batches))) mine,
+        own_shaped batches (λ c. elim (cases_eq b.client c) [
+          | inl same ↦ second_part (IsShapedEvent schema) (b.before ++ b.rest) (all_events (map stretch_of (of_client c batches))) (subst (λ (l : List Batch). AllByRecursion (IsShapedEvent schema) (all_events (map stretch_of l))) (of_client-here c b batches same) (is c))
+          | inr other ↦ subst (λ (l : List Batch). AllByRecursion (IsShapedEvent schema) (all_events (map stretch_of l))) (of_client-else c b batches other) (is c)
+        ]),
+      )
 
   -- the whole
   pub steps_fit : (batches : List Batch) (tails : List Tail) → length tails ≤ length names → length tails ≤ 8 → length batches < 2 ^ 30 → AllByRecursion (λ (b : Batch). b.client < length tails) batches
@@ -216,10 +218,10 @@ module _ (schema : Schema) (names : List (List ℕ)) where
         | inr past ↦ subst (λ (l : List Batch). AllByRecursion (IsShapedEvent schema) (all_events (map stretch_of l))) (sym (none_of (length tails) c batches mine past.0)) tt
       ] in
       let tails_are : (k : ℕ) (tail : Tail) → slice_get tails k ≡ Some tail → AllByRecursion (IsShapedEvent schema) (left_of batches tail (0 + k)) = λ k tail there.
-          let here : k ≡ 0 + k = omega arith in
-          subst (λ (x : ℕ). AllByRecursion (IsShapedEvent schema) (left_of batches tail x)) here (second_part (IsShapedEvent schema) (own_of batches k) (left_of batches tail k) (parts k tail there)) in
+      let here : k ≡ 0 + k = omega arith in
+      subst (λ (x : ℕ). AllByRecursion (IsShapedEvent schema) (left_of batches tail x)) here (second_part (IsShapedEvent schema) (own_of batches k) (left_of batches tail k) (parts k tail there)) in
       let whole : Fits (opens then middle then left) =
-          fits_then (opens then middle) left (fits_then opens middle (fits_forks batches [] 0 tails 0 (omega arith)) (fits_batches batches tails [] batches named mine (own_shaped batches own))) (fits_tails batches tails 0 (omega arith) tails_are) in
+      fits_then (opens then middle) left (fits_then opens middle (fits_forks batches [] 0 tails 0 (omega arith)) (fits_batches batches tails [] batches named mine (own_shaped batches own))) (fits_tails batches tails 0 (omega arith) tails_are) in
       let first : Drawing = (opens first_drawing).1 in
       let then_ : Drawing = (middle first).1 in
       let joined : IsFew batches tails batches then_.next = few_batches batches tails [] batches first (few_first batches tails) in

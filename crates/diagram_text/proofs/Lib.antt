@@ -7,3 +7,4 @@ pub mod Names
 pub mod Programs
 pub mod Cuts
 pub mod Walks
+pub mod Yielding

@@ -22,14 +22,14 @@ get_past f (x ∷ xs) ys = get_past f xs ys
 pub next_at : (batches front left passed rest : List Batch) (b : Batch) (tail : Tail) (c : ℕ) → batches ≡ front ++ left → left ≡ passed ++ b ∷ rest → of_client c passed ≡ [] → b.client ≡ c → next_base batches front tail c ≡ Some b.base
 next_at batches front left passed rest b tail c whole cut none mine =
     let own : of_client c batches ≡ of_client c front ++ b ∷ of_client c rest =
-        ap (of_client c) whole ∙ of_client-append c front left
-        ∙ ap (λ (l : List Batch). of_client c front ++ l) (ap (of_client c) cut ∙ of_client-append c passed (b ∷ rest) ∙ ap (λ (l : List Batch). l ++ of_client c (b ∷ rest)) none ∙ of_client-here c b rest mine) in
+    ap (of_client c) whole ∙ of_client-append c front left
+    ∙ ap (λ (l : List Batch). of_client c front ++ l) (ap (of_client c) cut ∙ of_client-append c passed (b ∷ rest) ∙ ap (λ (l : List Batch). l ++ of_client c (b ∷ rest)) none ∙ of_client-here c b rest mine) in
     let more : List Batch → List Stretch = λ l. map stretch_of (unjoined l tail.sent) ++ tail.now ∷ [] in
     let found : (l : List Batch) → l ≡ of_client c front ++ b ∷ of_client c rest → slice_get (map stretch_of l ++ more (of_client c batches)) (length (of_client c front)) ≡ Some (stretch_of b) =
-        λ l e. ap (λ (k : List Batch). slice_get (map stretch_of k ++ more (of_client c batches)) (length (of_client c front))) e
-        ∙ ap (λ (k : List Stretch). slice_get (k ++ more (of_client c batches)) (length (of_client c front))) (map-append stretch_of (of_client c front) (b ∷ of_client c rest))
-        ∙ ap (λ (k : List Stretch). slice_get k (length (of_client c front))) (append_assoc (map stretch_of (of_client c front)) (map stretch_of (b ∷ of_client c rest)) (more (of_client c batches)))
-        ∙ get_past stretch_of (of_client c front) (map stretch_of (b ∷ of_client c rest) ++ more (of_client c batches)) in
+    λ l e. ap (λ (k : List Batch). slice_get (map stretch_of k ++ more (of_client c batches)) (length (of_client c front))) e
+    ∙ ap (λ (k : List Stretch). slice_get (k ++ more (of_client c batches)) (length (of_client c front))) (map-append stretch_of (of_client c front) (b ∷ of_client c rest))
+    ∙ ap (λ (k : List Stretch). slice_get k (length (of_client c front))) (append_assoc (map stretch_of (of_client c front)) (map stretch_of (b ∷ of_client c rest)) (more (of_client c batches)))
+    ∙ get_past stretch_of (of_client c front) (map stretch_of (b ∷ of_client c rest) ++ more (of_client c batches)) in
     ap base_of (found (of_client c batches) own)
 
 -- where none is left, it is what was sent or what ran since

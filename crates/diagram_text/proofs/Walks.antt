@@ -118,9 +118,9 @@ module _ (answering : Answering) (schema : Schema) where
       let c : ℕ = b.client in
       let own : of_client c batches ≡ of_client c front ++ b ∷ of_client c rest = ap (of_client c) cut ∙ of_client-append c front (b ∷ rest) ∙ ap (λ (l : List Batch). of_client c front ++ l) (of_client-here c b rest refl) in
       let told : own_of batches c ≡ own_of front c ++ ((b.before ++ b.rest) ++ own_of rest c) =
-          ap (λ (l : List Batch). all_events (map stretch_of l)) own
-          ∙ ap all_events (map-append stretch_of (of_client c front) (b ∷ of_client c rest))
-          ∙ all_events-append (map stretch_of (of_client c front)) (map stretch_of (b ∷ of_client c rest)) in
+      ap (λ (l : List Batch). all_events (map stretch_of l)) own
+      ∙ ap all_events (map-append stretch_of (of_client c front) (b ∷ of_client c rest))
+      ∙ all_events-append (map stretch_of (of_client c front)) (map stretch_of (b ∷ of_client c rest)) in
       ap (λ (l : List Event). l ++ more) told
       ∙ append_assoc (own_of front c) ((b.before ++ b.rest) ++ own_of rest c) more
       ∙ ap (λ (l : List Event). own_of front c ++ l) (append_assoc (b.before ++ b.rest) (own_of rest c) more)

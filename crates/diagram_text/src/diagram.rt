@@ -60,7 +60,7 @@ fn step_lines(
 }
 
 // These lines, and those of the ends.
-fn record_lines(
+pub fn record_lines(
     alloc: Global,
     schema: &Schema,
     names: &[Name],

@@ -15,3 +15,6 @@ pub use laws::{
     drawings_stay_small, programs_are_legible, reports_are_diagrams, reports_tell_records,
     runs_are_shaped,
 };
+
+#[cfg(test)]
+mod tests;

@@ -75,9 +75,9 @@ returns g c first was =
     let whole : Draws = batches_from batches tails [] batches in
     let left : Draws = tails_from batches tails 0 in
     let middle : Drew took whole c.draw_forks.new.sink forked c.loop-place.sink joined = began_all took whole c.draw_forks.new.sink forked c.loop-place.sink joined
-        (subst (λ (l : List Batch). Began took whole (batches_from batches tails (take k batches) l) c.draw_forks.new.sink forked c.loop-place.sink joined) out c.loop-place.invariant.began) in
+    (subst (λ (l : List Batch). Began took whole (batches_from batches tails (take k batches) l) c.draw_forks.new.sink forked c.loop-place.sink joined) out c.loop-place.invariant.began) in
     let all : Drew took (opens then whole then left) c.args.sink.now start c.draw_tails.new.sink last =
-        drew_then took (opens then whole) left c.args.sink.now start c.loop-place.sink joined c.draw_tails.new.sink last
-        (drew_then took opens whole c.args.sink.now start c.draw_forks.new.sink forked c.loop-place.sink joined c.in_ok-draw_forks.ensures middle) c.in_ok-draw_tails.ensures in
+    drew_then took (opens then whole) left c.args.sink.now start c.loop-place.sink joined c.draw_tails.new.sink last
+    (drew_then took opens whole c.args.sink.now start c.draw_forks.new.sink forked c.loop-place.sink joined c.in_ok-draw_forks.ensures middle) c.in_ok-draw_tails.ensures in
     let taken = all.takes first [] (record { has = was; next = ap (λ (x : Drawing). x.next) c.new-pen.ensures }) in
     subst (λ (x : Drawing). took first ((opens then whole then left) x).0 c.draw_tails.new.sink) c.new-pen.ensures taken.has

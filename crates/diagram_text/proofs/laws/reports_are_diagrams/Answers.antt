@@ -13,8 +13,8 @@ pub returns : goal.returns
 returns c p batches tails ends is count few sound right flushed traced =
     let as_tails : length (traces p) ≡ length tails = as_many 0 p.bodies ∙ is.as_many_bodies ∙ count in
     let same : (client : ℕ) (its : List Answer → List Event × Outcome) → slice_get (traces p) client ≡ Some its → trace_of p client ≡ its = λ client its there.
-        let here : client ≡ 0 + client = omega arith in
-        ap (λ (n : ℕ). trace n (slice_index_or p.bodies client [])) here ∙ its_trace 0 client p.bodies its there in
+    let here : client ≡ 0 + client = omega arith in
+    ap (λ (n : ℕ). trace n (slice_index_or p.bodies client [])) here ∙ its_trace 0 client p.bodies its there in
     let shaped = c.runs_are_shaped.ensures p batches tails ends is count sound right traced in
     let clients : length tails ≤ 8 = omega (arith, is.few_clients, count) in
     record {

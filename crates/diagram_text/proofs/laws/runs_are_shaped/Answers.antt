@@ -33,16 +33,16 @@ returns c p batches tails ends is count sound right traced =
     let schema : Schema = p.schema in
     let body : (client : ℕ) → client < length tails → slice_get p.bodies client ≡ Some (get_or p.bodies client []) = λ client below. slice_get-get_or p.bodies client [] (omega (arith, is.as_many_bodies, count)) in
     let followed : (client : ℕ) → client < length tails → Follows schema (did batches tails client) = λ client below.
-        let end : End = get_or ends client Done in
-        let there : slice_get ends client ≡ Some end = slice_get-get_or ends client Done (omega (arith, sound.count)) in
-        follows c.answers_extend.ensures.extends c.answers_extend.ensures.in_order c.bodies_are_shaped.ensures.program p client (get_or p.bodies client []) (did batches tails client) end is (body client below) (traced client end there) in
+    let end : End = get_or ends client Done in
+    let there : slice_get ends client ≡ Some end = slice_get-get_or ends client Done (omega (arith, sound.count)) in
+    follows c.answers_extend.ensures.extends c.answers_extend.ensures.in_order c.bodies_are_shaped.ensures.program p client (get_or p.bodies client []) (did batches tails client) end is (body client below) (traced client end there) in
     let shaped : (client : ℕ) → Shaped schema (did batches tails client) = did_shaped c.shaped_answers.ensures.answers schema batches tails ends followed sound right in
     let ended_so : (client : ℕ) (end : End) → slice_get ends client ≡ Some end → IsEnd end = λ client end there.
-        let within : client < length ends = slice_get_within ends client end there in
-        let below : client < length tails = omega (arith, sound.count) in
-        let told : trace client (get_or p.bodies client []) (answers_in (did batches tails client)) ≡ (did batches tails client, ended end) = traced client end there in
-        let all : All (IsAnswered schema) (trace client (get_or p.bodies client []) (answers_in (did batches tails client))).0 =
-            subst (λ (t : List Event × Outcome). All (IsAnswered schema) t.0) (sym told) (All-from_recursion (IsAnswered schema) (did batches tails client) (answered schema (did batches tails client) (shaped client))) in
-        let its : IsShapedTrace schema client (did batches tails client, ended end) = subst (IsShapedTrace schema client) told (c.bodies_are_shaped.ensures.program p client (get_or p.bodies client []) (answers_in (did batches tails client)) is (body client below) all) in
-        is_end schema end its.outcome in
+    let within : client < length ends = slice_get_within ends client end there in
+    let below : client < length tails = omega (arith, sound.count) in
+    let told : trace client (get_or p.bodies client []) (answers_in (did batches tails client)) ≡ (did batches tails client, ended end) = traced client end there in
+    let all : All (IsAnswered schema) (trace client (get_or p.bodies client []) (answers_in (did batches tails client))).0 =
+    subst (λ (t : List Event × Outcome). All (IsAnswered schema) t.0) (sym told) (All-from_recursion (IsAnswered schema) (did batches tails client) (answered schema (did batches tails client) (shaped client))) in
+    let its : IsShapedTrace schema client (did batches tails client, ended end) = subst (IsShapedTrace schema client) told (c.bodies_are_shaped.ensures.program p client (get_or p.bodies client []) (answers_in (did batches tails client)) is (body client below) all) in
+    is_end schema end its.outcome in
     (λ client. All-from_recursion (IsShapedEvent schema) (did batches tails client) (shaped client), All-from_recursion IsEnd ends (are_ends ends ended_so))

@@ -47,11 +47,11 @@ returns c =
     let longer : take (place + 1) batches ≡ take place batches ++ b ∷ [] = take_more batches place b c.requires.within ∙ ap (λ (x : Batch). take place batches ++ x ∷ []) (sym here) in
     let seen : List Batch = c.as_slice-batches.result.now in
     let whole : batches ≡ take (place + 1) batches ++ take (length seen - (place + 1)) (drop (place + 1) seen) =
-        sym (ap (λ (t : List Batch). take (place + 1) batches ++ t) (rest_of seen (place + 1) ∙ ap (drop (place + 1)) c.as_slice-batches.ensures) ∙ take-append-drop (place + 1) batches) in
+    sym (ap (λ (t : List Batch). take (place + 1) batches ++ t) (rest_of seen (place + 1) ∙ ap (drop (place + 1)) c.as_slice-batches.ensures) ∙ take-append-drop (place + 1) batches) in
     let count : slice_index_or agenda.joined slot 0 + 1 ≡ length (of_client (get_or seen place b).client (take (place + 1) batches)) =
-        ap (λ (n : ℕ). n + 1) (c.requires.agenda.counts slot within ∙ ap (λ (x : ℕ). length (of_client x (take place batches))) mine)
-        ∙ sym (count_last (take place batches) b)
-        ∙ ap (λ (l : List Batch). length (of_client b.client l)) (sym longer)
-        ∙ ap (λ (x : ℕ). length (of_client x (take (place + 1) batches))) (sym mine ∙ c.from-slot.ensures) in
+    ap (λ (n : ℕ). n + 1) (c.requires.agenda.counts slot within ∙ ap (λ (x : ℕ). length (of_client x (take place batches))) mine)
+    ∙ sym (count_last (take place batches) b)
+    ∙ ap (λ (l : List Batch). length (of_client b.client l)) (sym longer)
+    ∙ ap (λ (x : ℕ). length (of_client x (take (place + 1) batches))) (sym mine ∙ c.from-slot.ensures) in
     let is : c.next_base.result ≡ next_base batches (take (place + 1) batches) tail slot = c.next_base.ensures batches (take (place + 1) batches) whole count ∙ ap (λ (x : ℕ). next_base batches (take (place + 1) batches) tail x) (sym c.from-slot.ensures) in
     agenda_more batches tails (take place batches) (take (place + 1) batches) b agenda slot c.next_base.result tail longer mine within_joined within_bases within there is c.requires.agenda

@@ -13,8 +13,8 @@ returns c first steps took next =
     let same : schema ≡ first.schema.now = ap (λ s. s.now) took.0 in
     let alike : names ≡ first.names.now = ap (λ n. n.now) took.1 in
     let line : c.deref.result.now ≡ step_line first.schema.now first.names.now c.args.next c.args.step =
-        c.deref.ensures.value ∙ c.in_ok-line.ensures
-        ∙ ap (λ (s : Schema). step_line s names c.from.result c.args.step) same
-        ∙ ap (λ (n : List (List ℕ)). step_line first.schema.now n c.from.result c.args.step) alike
-        ∙ ap (λ (n : ℕ). step_line first.schema.now first.names.now n c.args.step) c.from.ensures in
+    c.deref.ensures.value ∙ c.in_ok-line.ensures
+    ∙ ap (λ (s : Schema). step_line s names c.from.result c.args.step) same
+    ∙ ap (λ (n : List (List ℕ)). step_line first.schema.now n c.from.result c.args.step) alike
+    ∙ ap (λ (n : ℕ). step_line first.schema.now first.names.now n c.args.step) c.from.ensures in
     (took.0, took.1, c.in_ok-extend_from_slice.ensures.items ∙ ap (λ (l : List ℕ). text ++ l) line ∙ line_more first.schema.now first.names.now c.args.next first.text.items text steps c.args.step took.2 next)
