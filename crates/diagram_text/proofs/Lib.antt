@@ -7,4 +7,5 @@ pub mod Names
 pub mod Programs
 pub mod Cuts
 pub mod Walks
+pub mod Worked
 pub mod Yielding

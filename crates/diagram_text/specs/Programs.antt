@@ -1,5 +1,5 @@
 -- What the clients of a program do, and what a report of it tells.
-use Rattle.std.specs.Prelude.{ℕ, suc, List, [], ◌∷◌, slice_index_or}
+use Rattle.std.specs.Prelude.{◌≡◌, refl, ℕ, suc, List, [], ◌∷◌, slice_index_or}
 use Rattle.cloud_base.specs.Events.{Outcome}
 use Rattle.cloud_base.specs.declared.end.End.{End}
 use Rattle.cloud_base.specs.declared.update.Answer.{Answer}
@@ -30,3 +30,11 @@ traces p = traces_from 0 p.bodies
 pub record Reports (p : Parts) (steps : List Step) (ends : List End) : Type 0 where
   pub headline : Headline p.schema below_server (traces p) ends steps
   pub told : Told p.schema p.names steps ends
+
+module _ where
+  -- two clients with these bodies, of which the second has number 1
+  abbrev two : List Statement → List Statement → Parts
+  two first second = record { schema = record { properties = []; entities = [] }; names = []; bodies = first ∷ second ∷ []; schedule = [] }
+
+  pub example_traces : (first second : List Statement) → (traces (two first second) ≡ trace 0 first ∷ trace 1 second ∷ []) × (trace_of (two first second) 1 ≡ trace 1 second)
+  example_traces first second = (refl, refl)

@@ -25,3 +25,16 @@ module _ where
   -- a fork takes a number
   pub example_free : free_after 1 (Fork 0 0 ∷ Mark 1 false ∷ Fork 1 0 ∷ Join 0 1 ∷ []) ≡ 3
   example_free = refl
+
+  abbrev forked : List Step
+  forked = Fork 0 0 ∷ []
+
+  abbrev drawing : ℕ → ℕ → Drawing
+  drawing next standing = record { next = next; standing = λ c. standing; received = λ c. 0 }
+
+  abbrev Added : List Step → List Step → List Step → Type 0
+  Added first steps now = now ≡ first ++ steps
+
+  -- a list has a client's opening fork, and no other step
+  pub example_took : Took Added [] forked (drawing 2 1) forked
+  example_took = record { has = refl; next = refl }
