@@ -13,7 +13,6 @@ use Rattle.batch_history.specs.Sound.{SoundTail}
 use Rattle.record_diagram.specs.Steps.{steps_of}
 use Rattle.revision_diagram.specs.declared.step.Step.TheVariants.{Fork, Join, Do, Ask, Mark}
 
-
 abbrev add : Update
 add = Cell 0 [] (Add (pos 1))
 
@@ -25,8 +24,8 @@ at_end base rest = record { sent = None; now = record { base = Some base; before
 
 -- the second client pushes, then the first one, and the second pulls what both pushed: docs/REPORT.md
 pub example_two_clients : steps_of
-      (batch 1 1 0 [] (event.Yield ∷ []) ∷ batch 0 1 0 [] (event.Do add ∷ event.Flush ∷ []) ∷ batch 1 2 2 (event.Flush ∷ []) [] ∷ [])
-      (at_end 2 [] ∷ at_end 3 (event.Ask (Get 0 []) (Int (pos 1)) ∷ []) ∷ [])
+    (batch 1 1 0 [] (event.Yield ∷ []) ∷ batch 0 1 0 [] (event.Do add ∷ event.Flush ∷ []) ∷ batch 1 2 2 (event.Flush ∷ []) [] ∷ [])
+    (at_end 2 [] ∷ at_end 3 (event.Ask (Get 0 []) (Int (pos 1)) ∷ []) ∷ [])
     ≡ Fork 0 0 ∷ Fork 0 1 ∷ Mark 2 false ∷ Fork 2 1 ∷ Join 0 2
     ∷ Do 1 add ∷ Mark 1 true ∷ Fork 1 0 ∷ Join 0 1 ∷ Fork 0 0 ∷ Fork 0 1
     ∷ Mark 3 true ∷ Join 6 3 ∷ Fork 6 1 ∷ Join 0 6 ∷ Fork 0 1

@@ -5,98 +5,167 @@ ghost use Rattle.typed_program.specs.declared.statement.Statement.TheVariants as
 use crate::diagram::record_lines;
 use crate::{Record, build, report};
 use cloud_base::{
-    Answer, Batch, CellChange, CellType, End, Entity, Event, Key, KeyType, Keys, Memory, Name,
-    Owner, Property, Query, Schema, Sequence, Stretch, Tail, Text, Uid, Update,
+    Answer, Batch, CellChange, CellType, End, Entity, Event, EventList, IdList, Key, KeyType, Keys,
+    Memory, Name, Owner, Property, Query, Schema, Sequence, Stretch, Tail, Text, TupleList, Uid,
+    Update,
 };
 use sqlite_items::Items;
 use std::alloc::Global;
 use std::test::Fail;
 use typed_program::{Body, Parts, Program, Statement};
 
-fn list<T: Drop, const N: usize>(alloc: Global, items: [T; N]) -> Result<Sequence<T>, Memory> {
-    Ok(Sequence::from_vec(Vec::from_array(alloc, items)?))
+// The key of a cell of the first property.
+#[derive(Clone, Copy)]
+enum At {
+    Nothing,
+    Words(&'static str),
+    Serial(u32),
 }
 
-// The batch of a client and a round, with its base.
-fn batch<const N: usize, const M: usize>(
-    alloc: Global,
-    (client, round, base): (u8, u64, u64),
-    before: [Event; N],
-    rest: [Event; M],
-) -> Result<Batch, Memory> {
-    Ok(Batch {
-        client,
-        round,
-        base,
-        before: list(alloc, before)?,
-        rest: list(alloc, rest)?,
-    })
+// What a client did, as it is written in the tables.
+#[derive(Clone, Copy)]
+enum Told {
+    Yield,
+    Flush,
+    Adds(At, i64),
+    Creates(u32, u16, At),
+    Deletes(u32),
+    Gets(At, i64),
+    Entries(&'static [&'static str]),
+    All(u16, u32),
+    Alive(u32, bool),
+    Says(i64),
+    SaysText(&'static str),
+    SaysTruth(bool),
 }
 
-// The tail of a client that pulled so many batches, and then did this.
-fn pulled<const N: usize>(alloc: Global, base: u64, rest: [Event; N]) -> Result<Tail, Memory> {
-    let now = Stretch {
-        base: Some(base),
-        before: Sequence::new(alloc),
-        rest: list(alloc, rest)?,
-    };
-    Ok(Tail { sent: None, now })
-}
+// A push: its client, round and base, and what ran before the pull and since.
+#[derive(Clone, Copy)]
+struct Push<'a>(u8, u64, u64, &'a [Told], &'a [Told]);
 
-// Each client ended at the end of its body.
-fn record<const N: usize, const M: usize>(
-    alloc: Global,
-    batches: [Batch; N],
-    tails: [Tail; M],
-) -> Result<Record, Memory> {
-    Ok(Record {
-        batches: list(alloc, batches)?,
-        tails: list(alloc, tails)?,
-        ends: list(alloc, [End::Done; M])?,
-    })
-}
+// What a client pulled at last, and what it did since.
+#[derive(Clone, Copy)]
+struct Left<'a>(u64, &'a [Told]);
 
 fn text(text: &str) -> Text {
     Text::new(text.as_bytes()).unwrap_or(Text::empty())
 }
 
-fn of_text(bytes: &str) -> Keys {
-    Keys::one(Key::Text(text(bytes)))
+fn id(serial: u32) -> Uid {
+    Uid::new(0, serial)
 }
 
-fn of_id(serial: u32) -> Keys {
-    Keys::one(Key::Ref(Uid::new(0, serial)))
+fn keys(at: At) -> Keys {
+    match at {
+        At::Nothing => Keys::empty(),
+        At::Words(words) => Keys::one(Key::Text(text(words))),
+        At::Serial(serial) => Keys::one(Key::Ref(id(serial))),
+    }
 }
 
-fn adds(keys: Keys, number: i64) -> Event {
-    Event::Do(Update::Cell(0, keys, CellChange::Add(number)))
+fn tuples(alloc: Global, words: &[&'static str]) -> Result<TupleList, Memory> {
+    let mut tuples = Sequence::new(alloc);
+    for word in words {
+        tuples.push(keys(At::Words(word)))?;
+    }
+    Ok(tuples)
 }
 
-fn gets(keys: Keys, number: i64) -> Event {
-    Event::Ask(Query::Get(0, keys), Answer::Int(number))
+fn one_id(alloc: Global, serial: u32) -> Result<IdList, Memory> {
+    let mut ids = Sequence::new(alloc);
+    ids.push(id(serial))?;
+    Ok(ids)
 }
 
-fn says(number: i64) -> Event {
-    Event::Say(Answer::Int(number))
+fn event(alloc: Global, told: Told) -> Result<Event, Memory> {
+    Ok(match told {
+        Told::Yield => Event::Yield,
+        Told::Flush => Event::Flush,
+        Told::Adds(at, number) => Event::Do(Update::Cell(0, keys(at), CellChange::Add(number))),
+        Told::Creates(serial, entity, at) => {
+            Event::Do(Update::Create(id(serial), entity, keys(at)))
+        }
+        Told::Deletes(serial) => Event::Do(Update::Delete(id(serial))),
+        Told::Gets(at, number) => Event::Ask(Query::Get(0, keys(at)), Answer::Int(number)),
+        Told::Entries(words) => {
+            Event::Ask(Query::Entries(0), Answer::Tuples(tuples(alloc, words)?))
+        }
+        Told::All(entity, serial) => {
+            Event::Ask(Query::All(entity), Answer::Ids(one_id(alloc, serial)?))
+        }
+        Told::Alive(serial, truth) => Event::Ask(Query::Alive(id(serial)), Answer::Truth(truth)),
+        Told::Says(number) => Event::Say(Answer::Int(number)),
+        Told::SaysText(words) => Event::Say(Answer::Text(text(words))),
+        Told::SaysTruth(truth) => Event::Say(Answer::Truth(truth)),
+    })
+}
+
+fn events(alloc: Global, told: &[Told]) -> Result<EventList, Memory> {
+    let mut events = Sequence::new(alloc);
+    for one in told {
+        events.push(event(alloc, *one)?)?;
+    }
+    Ok(events)
+}
+
+fn batch(alloc: Global, push: Push) -> Result<Batch, Memory> {
+    let Push(client, round, base, before, rest) = push;
+    let before = events(alloc, before)?;
+    let rest = events(alloc, rest)?;
+    Ok(Batch {
+        client,
+        round,
+        base,
+        before,
+        rest,
+    })
+}
+
+fn tail(alloc: Global, left: Left) -> Result<Tail, Memory> {
+    let Left(base, rest) = left;
+    let now = Stretch {
+        base: Some(base),
+        before: Sequence::new(alloc),
+        rest: events(alloc, rest)?,
+    };
+    Ok(Tail { sent: None, now })
+}
+
+// Each client ended at the end of its body.
+fn record(alloc: Global, pushes: &[Push], lefts: &[Left]) -> Result<Record, Memory> {
+    let mut batches = Sequence::new(alloc);
+    for push in pushes {
+        batches.push(batch(alloc, *push)?)?;
+    }
+    let mut tails = Sequence::new(alloc);
+    let mut ends = Sequence::new(alloc);
+    for left in lefts {
+        tails.push(tail(alloc, *left)?)?;
+        ends.push(End::Done)?;
+    }
+    Ok(Record {
+        batches,
+        tails,
+        ends,
+    })
 }
 
 // One property of integers.
-fn schema<const N: usize, const M: usize>(
-    alloc: Global,
-    name: Name,
-    owner: Owner,
-    keys: [KeyType; N],
-    entities: [Entity; M],
-) -> Result<Schema, Memory> {
-    let property = Property {
+fn schema(alloc: Global, name: Name, owner: Owner, key: Option<KeyType>) -> Result<Schema, Memory> {
+    let mut keys = Sequence::new(alloc);
+    if let Some(key) = key {
+        keys.push(key)?;
+    }
+    let mut properties = Sequence::new(alloc);
+    properties.push(Property {
         name,
         owner,
         cell: CellType::Int,
-        keys: list(alloc, keys)?,
-    };
+        keys,
+    })?;
     Ok(Schema {
-        properties: list(alloc, [property])?,
-        entities: list(alloc, entities)?,
+        properties,
+        entities: Sequence::new(alloc),
     })
 }
 
@@ -152,46 +221,45 @@ end bob Done
 end cy Done
 ";
 
-fn grocery_batches(alloc: Global) -> Result<[Batch; 4], Memory> {
-    let bought = [adds(of_text("milk"), 1), adds(of_text("eggs"), 12), Event::Flush];
-    Ok([
-        batch(alloc, (2, 1, 0), [], [Event::Yield])?,
-        batch(alloc, (0, 1, 0), [], [adds(of_text("milk"), 2), Event::Flush])?,
-        batch(alloc, (2, 2, 1), [Event::Flush], [])?,
-        batch(alloc, (1, 1, 0), [], bought)?,
-    ])
-}
-
-fn grocery_tails(alloc: Global) -> Result<[Tail; 3], Memory> {
-    let both = list(alloc, [of_text("eggs"), of_text("milk")])?;
-    let milk = list(alloc, [of_text("milk")])?;
-    let listed = [
-        Event::Ask(Query::Entries(0), Answer::Tuples(both)),
-        Event::Say(Answer::Text(text("eggs"))),
-        Event::Say(Answer::Text(text("milk"))),
-    ];
-    let counted = [
-        Event::Ask(Query::Entries(0), Answer::Tuples(milk)),
-        gets(of_text("milk"), 2),
-        says(2),
-    ];
-    Ok([
-        pulled(alloc, 2, [gets(of_text("milk"), 2), says(2)])?,
-        pulled(alloc, 4, listed)?,
-        pulled(alloc, 3, counted)?,
-    ])
-}
-
 fn grocery_list(alloc: Global) -> Result<Vec<u8>, Memory> {
+    let milk = At::Words("milk");
+    let eggs = At::Words("eggs");
+    let pushes = [
+        Push(2, 1, 0, &[], &[Told::Yield]),
+        Push(0, 1, 0, &[], &[Told::Adds(milk, 2), Told::Flush]),
+        Push(2, 2, 1, &[Told::Flush], &[]),
+        Push(
+            1,
+            1,
+            0,
+            &[],
+            &[Told::Adds(milk, 1), Told::Adds(eggs, 12), Told::Flush],
+        ),
+    ];
+    let lefts = [
+        Left(2, &[Told::Gets(milk, 2), Told::Says(2)]),
+        Left(
+            4,
+            &[
+                Told::Entries(&["eggs", "milk"]),
+                Told::SaysText("eggs"),
+                Told::SaysText("milk"),
+            ],
+        ),
+        Left(
+            3,
+            &[Told::Entries(&["milk"]), Told::Gets(milk, 2), Told::Says(2)],
+        ),
+    ];
+    let history = record(alloc, &pushes, &lefts)?;
     let owner = Owner::Array(Name::new(alloc, b"Grocery")?);
     let name = Name::new(alloc, b"quantity")?;
-    let schema = schema(alloc, name, owner, [KeyType::Text], [])?;
+    let schema = schema(alloc, name, owner, Some(KeyType::Text))?;
     let names = [
         Name::new(alloc, b"ann")?,
         Name::new(alloc, b"bob")?,
         Name::new(alloc, b"cy")?,
     ];
-    let history = record(alloc, grocery_batches(alloc)?, grocery_tails(alloc)?)?;
     lines_of(alloc, &schema, &names, &history)
 }
 
@@ -233,52 +301,67 @@ end a Done
 end b Done
 ";
 
-fn deletion_record(alloc: Global) -> Result<Record, Memory> {
-    let created = [
-        Event::Do(Update::Create(Uid::new(0, 0), 0, Keys::empty())),
-        Event::Do(Update::Create(Uid::new(0, 1), 1, of_id(0))),
-        adds(of_id(1), 1),
-        Event::Flush,
-    ];
-    let deleted = [Event::Do(Update::Delete(Uid::new(0, 0))), Event::Flush];
-    let orders = list(alloc, [Uid::new(0, 1)])?;
-    let changed = [
-        Event::Ask(Query::All(1), Answer::Ids(orders)),
-        adds(of_id(1), 5),
-        gets(of_id(1), 6),
-        says(6),
-        Event::Flush,
-    ];
-    let gone = [
-        gets(of_id(1), 0),
-        says(0),
-        Event::Ask(Query::Alive(Uid::new(0, 1)), Answer::Truth(false)),
-        Event::Say(Answer::Truth(false)),
-    ];
-    let batches = [
-        batch(alloc, (0, 1, 0), [], created)?,
-        batch(alloc, (1, 1, 0), [], [Event::Flush])?,
-        batch(alloc, (0, 2, 1), [], deleted)?,
-        batch(alloc, (1, 2, 2), [], changed)?,
-    ];
-    let tails = [pulled(alloc, 3, [])?, pulled(alloc, 4, gone)?];
-    record(alloc, batches, tails)
+fn orders(alloc: Global) -> Result<Schema, Memory> {
+    let owner = Owner::Array(Name::new(alloc, b"Note")?);
+    let name = Name::new(alloc, b"n")?;
+    let mut schema = schema(alloc, name, owner, Some(KeyType::Id(1)))?;
+    schema.entities.push(Entity {
+        name: Name::new(alloc, b"Customer")?,
+        keys: Sequence::new(alloc),
+    })?;
+    let mut keys = Sequence::new(alloc);
+    keys.push(KeyType::Id(0))?;
+    let name = Name::new(alloc, b"Order")?;
+    schema.entities.push(Entity { name, keys })?;
+    Ok(schema)
 }
 
 fn deletion(alloc: Global) -> Result<Vec<u8>, Memory> {
-    let customer = Entity {
-        name: Name::new(alloc, b"Customer")?,
-        keys: Sequence::new(alloc),
-    };
-    let order = Entity {
-        name: Name::new(alloc, b"Order")?,
-        keys: list(alloc, [KeyType::Id(0)])?,
-    };
-    let owner = Owner::Array(Name::new(alloc, b"Note")?);
-    let name = Name::new(alloc, b"n")?;
-    let schema = schema(alloc, name, owner, [KeyType::Id(1)], [customer, order])?;
+    let order = At::Serial(1);
+    let pushes = [
+        Push(
+            0,
+            1,
+            0,
+            &[],
+            &[
+                Told::Creates(0, 0, At::Nothing),
+                Told::Creates(1, 1, At::Serial(0)),
+                Told::Adds(order, 1),
+                Told::Flush,
+            ],
+        ),
+        Push(1, 1, 0, &[], &[Told::Flush]),
+        Push(0, 2, 1, &[], &[Told::Deletes(0), Told::Flush]),
+        Push(
+            1,
+            2,
+            2,
+            &[],
+            &[
+                Told::All(1, 1),
+                Told::Adds(order, 5),
+                Told::Gets(order, 6),
+                Told::Says(6),
+                Told::Flush,
+            ],
+        ),
+    ];
+    let lefts = [
+        Left(3, &[]),
+        Left(
+            4,
+            &[
+                Told::Gets(order, 0),
+                Told::Says(0),
+                Told::Alive(1, false),
+                Told::SaysTruth(false),
+            ],
+        ),
+    ];
+    let history = record(alloc, &pushes, &lefts)?;
     let names = [Name::new(alloc, b"a")?, Name::new(alloc, b"b")?];
-    lines_of(alloc, &schema, &names, &deletion_record(alloc)?)
+    lines_of(alloc, &orders(alloc)?, &names, &history)
 }
 
 const PUSHED_TWICE: &str = "fork 0 1 a
@@ -302,6 +385,19 @@ join 3 2
 end a Done
 ";
 
+// Of a global `g` and a client `a`, which pushed once and pulled that.
+fn one_push(alloc: Global, pushed: &[Told], since: &[Told]) -> Result<Vec<u8>, Memory> {
+    let history = record(alloc, &[Push(0, 1, 0, &[], pushed)], &[Left(1, since)])?;
+    counter(alloc, &history)
+}
+
+fn counter(alloc: Global, history: &Record) -> Result<Vec<u8>, Memory> {
+    let name = Name::new(alloc, b"g")?;
+    let schema = schema(alloc, name, Owner::Global, None)?;
+    let names = [Name::new(alloc, b"a")?];
+    lines_of(alloc, &schema, &names, history)
+}
+
 // The last push is outstanding, and what ran before the pull comes first.
 const OUTSTANDING: &str = "fork 0 1 a
 do 1 g.add(1)
@@ -318,37 +414,21 @@ say 4 7
 end a Done
 ";
 
-fn outstanding(alloc: Global) -> Result<Record, Memory> {
-    let first = batch(alloc, (0, 1, 0), [], [adds(Keys::empty(), 1), Event::Yield])?;
-    let before = [adds(Keys::empty(), 2), Event::Yield];
-    let sent = batch(alloc, (0, 2, 1), before, [Event::Flush])?;
+fn outstanding(alloc: Global) -> Result<Vec<u8>, Memory> {
+    let first = Push(0, 1, 0, &[], &[Told::Adds(At::Nothing, 1), Told::Yield]);
+    let mut history = record(alloc, &[first], &[])?;
+    let before = [Told::Adds(At::Nothing, 2), Told::Yield];
+    let sent = batch(alloc, Push(0, 2, 1, &before, &[Told::Flush]))?;
     let now = Stretch {
         base: None,
-        before: list(alloc, [says(7)])?,
+        before: events(alloc, &[Told::Says(7)])?,
         rest: Sequence::new(alloc),
     };
-    let tail = Tail {
+    history.tails.push(Tail {
         sent: Some(sent),
         now,
-    };
-    record(alloc, [first], [tail])
-}
-
-// Of a global `g` and a client `a`.
-fn counter(alloc: Global, history: &Record) -> Result<Vec<u8>, Memory> {
-    let name = Name::new(alloc, b"g")?;
-    let schema = schema(alloc, name, Owner::Global, [], [])?;
-    let names = [Name::new(alloc, b"a")?];
-    lines_of(alloc, &schema, &names, history)
-}
-
-fn one_push<const N: usize, const M: usize>(
-    alloc: Global,
-    pushed: [Event; N],
-    since: [Event; M],
-) -> Result<Vec<u8>, Memory> {
-    let batches = [batch(alloc, (0, 1, 0), [], pushed)?];
-    let history = record(alloc, batches, [pulled(alloc, 1, since)?])?;
+    })?;
+    history.ends.push(End::Done)?;
     counter(alloc, &history)
 }
 
@@ -381,8 +461,25 @@ end g Done
 end h Done
 ";
 
-fn eight_names(alloc: Global) -> Result<[Name; 8], Memory> {
-    Ok([
+fn eight_clients(alloc: Global) -> Result<Vec<u8>, Memory> {
+    let pushes = [
+        Push(7, 1, 0, &[], &[Told::Yield]),
+        Push(0, 1, 0, &[], &[Told::Yield]),
+    ];
+    let idle = Left(0, &[]);
+    let says = Left(0, &[Told::Says(1)]);
+    let lefts = [
+        Left(2, &[]),
+        idle,
+        idle,
+        says,
+        idle,
+        idle,
+        idle,
+        Left(1, &[]),
+    ];
+    let history = record(alloc, &pushes, &lefts)?;
+    let names = [
         Name::new(alloc, b"a")?,
         Name::new(alloc, b"b")?,
         Name::new(alloc, b"c")?,
@@ -391,30 +488,12 @@ fn eight_names(alloc: Global) -> Result<[Name; 8], Memory> {
         Name::new(alloc, b"f")?,
         Name::new(alloc, b"g")?,
         Name::new(alloc, b"h")?,
-    ])
-}
-
-fn eight_clients(alloc: Global) -> Result<Vec<u8>, Memory> {
-    let batches = [
-        batch(alloc, (7, 1, 0), [], [Event::Yield])?,
-        batch(alloc, (0, 1, 0), [], [Event::Yield])?,
     ];
-    let tails = [
-        pulled(alloc, 2, [])?,
-        pulled(alloc, 0, [])?,
-        pulled(alloc, 0, [])?,
-        pulled(alloc, 0, [says(1)])?,
-        pulled(alloc, 0, [])?,
-        pulled(alloc, 0, [])?,
-        pulled(alloc, 0, [])?,
-        pulled(alloc, 1, [])?,
-    ];
-    let history = record(alloc, batches, tails)?;
     let nothing = Schema {
         properties: Sequence::new(alloc),
         entities: Sequence::new(alloc),
     };
-    lines_of(alloc, &nothing, &eight_names(alloc)?, &history)
+    lines_of(alloc, &nothing, &names, &history)
 }
 
 // `yield;`
@@ -445,13 +524,13 @@ fn program(alloc: Global) -> Result<Program, Memory> {
 
 // A client that yields, and was not served: its steps and its report.
 fn unserved(alloc: Global) -> Result<(usize, Vec<u8>), Memory> {
-    let program = program(alloc)?;
-    let history = record(alloc, [], [pulled(alloc, 0, [Event::Yield])?])?;
+    let history = record(alloc, &[], &[Left(0, &[Told::Yield])])?;
     if !history.is_drawable() {
         return Ok((0, Vec::new(alloc)));
     }
-    let steps = build(alloc, &history)?;
-    Ok((steps.len(), report(alloc, &program, &history)?))
+    let steps = build(alloc, &history)?.len();
+    let program = program(alloc)?;
+    Ok((steps, report(alloc, &program, &history)?))
 }
 
 #[test]
@@ -459,24 +538,22 @@ fn known_reports(rt: HostRuntime) -> Result<(), Fail> {
     let alloc = rt.alloc();
     let (steps, text) = unserved(alloc)?;
     assert_eq!(rt; steps, 2);
-    let table = [
-        (text, "fork 0 1 a\nmark 1 yield\nend a Done\n"),
-        (grocery_list(alloc)?, GROCERY_LIST),
-        (deletion(alloc)?, DELETION),
-        (
-            one_push(
-                alloc,
-                [adds(Keys::empty(), 1), Event::Flush],
-                [gets(Keys::empty(), 1), says(1)],
-            )?,
-            PUSHED_TWICE,
-        ),
-        (one_push(alloc, [Event::Flush], [])?, FLUSH),
-        (counter(alloc, &outstanding(alloc)?)?, OUTSTANDING),
-        (eight_clients(alloc)?, EIGHT_CLIENTS),
-    ];
-    for (text, want) in table.iter() {
-        assert_eq!(rt; text.as_slice(), want.as_bytes());
-    }
+    assert_eq!(rt;
+        text.as_slice(),
+        b"fork 0 1 a\nmark 1 yield\nend a Done\n".as_slice()
+    );
+    let text = grocery_list(alloc)?;
+    assert_eq!(rt; text.as_slice(), GROCERY_LIST.as_bytes());
+    let text = deletion(alloc)?;
+    assert_eq!(rt; text.as_slice(), DELETION.as_bytes());
+    let pushed = [Told::Adds(At::Nothing, 1), Told::Flush];
+    let text = one_push(alloc, &pushed, &[Told::Gets(At::Nothing, 1), Told::Says(1)])?;
+    assert_eq!(rt; text.as_slice(), PUSHED_TWICE.as_bytes());
+    let text = one_push(alloc, &[Told::Flush], &[])?;
+    assert_eq!(rt; text.as_slice(), FLUSH.as_bytes());
+    let text = outstanding(alloc)?;
+    assert_eq!(rt; text.as_slice(), OUTSTANDING.as_bytes());
+    let text = eight_clients(alloc)?;
+    assert_eq!(rt; text.as_slice(), EIGHT_CLIENTS.as_bytes());
     Ok(())
 }
