@@ -43,9 +43,9 @@ pub fn own_updates_join()
         → Fit schema (all_updates batches ++ more) }
 {}
 
-/// A push of a round above the next can't be. The next batch of a client, which follows a front of a
-/// sound record, makes a longer sound record that has just its client's own batches, and is answered
-/// right where they were so.
+/// A push of a round above the next can't be. The next batch of a client, which follows a front of
+/// a sound record, makes a longer sound record that has just its client's own batches, and is
+/// answered right where they were so.
 pub fn next_batches_join()
     ensures no_gap { (batches past own : List Batch) (b : Batch) → IsPrefix past batches
         → Follows past own b → b.round ≤ length (of_client b.client batches) + 1 }
@@ -59,7 +59,8 @@ pub fn next_batches_join()
     ensures right { (answers : List Update → Query → Answer) (batches past own : List Batch)
         (b : Batch) → SoundBatches batches
         → IsPrefix past batches → Follows past own b
-        → b.round ≡ length (of_client b.client batches) + 1 → RightBatches (IsThatOf answers) batches
+        → b.round ≡ length (of_client b.client batches) + 1
+        → RightBatches (IsThatOf answers) batches
         → RightOwn (IsThatOf answers) past own
         → RightBatches (IsThatOf answers) (batches ++ b ∷ []) }
 {}

@@ -169,7 +169,8 @@ fn draw_tails<S: StepSink>(
     history: &Record,
 ) -> Result<(), Memory>
     requires drawable { IsDrawable history.now }
-    requires agenda { IsAgenda history.now.batches history.now.tails history.now.batches agenda.now }
+    requires agenda { IsAgenda history.now.batches history.now.tails history.now.batches
+        agenda.now }
     requires room { pen.old.next + length history.now.tails < 2 ^ 32 }
     ensures { OnOk result (Drew S.took (tails_from history.now.batches history.now.tails 0)
         sink.old (drawing_of pen.old) sink.new (drawing_of pen.new)) }

@@ -41,12 +41,13 @@ impl<N: Run, S: Homed, P: Numbered, R: Numbered> Model for PlainHub<N, S, P, R> 
       server = h.server;
     } };
 
-    ghost invariant = { λ h. HeldOf P.client_of P.of_run R.client_of R.of_run S.of_run N.name record {
-      outboxes = h.outboxes.items;
-      inboxes = h.inboxes.items;
-      rounds = h.rounds.items;
-      server = h.server;
-    } };
+    ghost invariant = { λ h. HeldOf P.client_of P.of_run R.client_of R.of_run S.of_run N.name
+        (record {
+          outboxes = h.outboxes.items;
+          inboxes = h.inboxes.items;
+          rounds = h.rounds.items;
+          server = h.server;
+        }) };
 }
 
 fn empty_boxes<T: Drop>(alloc: Global, clients: u8) -> Result<Vec<Option<T>>, Memory>

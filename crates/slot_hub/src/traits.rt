@@ -57,7 +57,8 @@ pub trait Hub<S: Homed, P: Numbered, R: Numbered> {
     fn trade_out(&mut self, client: u8, new: Option<P>) -> Result<Option<P>, Busy<Option<P>>>
         requires client { client < clients_of (seen self.old).run }
         requires new { ForSome new (Carries P.client_of P.of_run (seen self.old).run client) }
-        ensures { TradesOut P.client_of P.of_run client new result (seen self.old) (seen self.new) };
+        ensures { TradesOut P.client_of P.of_run client new result (seen self.old)
+            (seen self.new) };
 
     /// Puts a reply, or nothing, into a client's inbox, and gives what that held.
     fn trade_in(&mut self, client: u8, new: Option<R>) -> Result<Option<R>, Busy<Option<R>>>
