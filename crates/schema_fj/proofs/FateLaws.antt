@@ -19,7 +19,8 @@ use Rattle.cloud_base.proofs.SortedLemmas.{here, there, none_in, split_member}
 use Rattle.cloud_base.proofs.LogLemmas.{deleted_parts, creation_parts, creation_stays, deleted_member, member_deleted, created_member, created_contains}
 use Rattle.cloud_base.proofs.DeadLemmas.{is_dead_decides, dead_from_chain, dead_grows}
 use Rattle.fj_entity.specs.declared.created.Created.{Created}
-use Rattle.schema_fj.specs.Told.{creates, deletes, IsBorn, SameFates}
+use Rattle.change_lists.specs.Effects.{IsBorn}
+use Rattle.schema_fj.specs.Told.{creates, deletes, SameFates}
 use Rattle.fj_entity.specs.declared.fate.Fate.{Fate}
 use Rattle.fj_entity.specs.declared.fate.Fate.TheVariants.{Dead as Gone}
 use Rattle.fj_entity.specs.Fates.{living, fate_in}
@@ -76,10 +77,6 @@ member_deletes (d ∷ died) id h = elim (split_member d id died h) [
   | inr m ↦ there (Delete d) (Delete id) (deletes died) (member_deletes died id m)
 ]
 
-some_is : {A : Type 0} (o : Option A) → is_some o ≡ true → (x : A) × (o ≡ Some x)
-some_is None h = absurd (false≢true h)
-some_is (Some x) h = (x, refl)
-
 first_of : {A : Type 0} (o p : Option A) (x : A) → option_or o p ≡ Some x → (o ≡ Some x) ⊎ ((o ≡ None) × (p ≡ Some x))
 first_of None p x h = inr (refl, h)
 first_of (Some y) p x h = inl h
@@ -119,15 +116,6 @@ module _ (joiner before after : List Update) (born : List Created) (died : List 
       at None k = k
       at (Some d) k = absurd ((created_once_parts joiner after once).2 id (created_contains id d.entity d.keys joiner (created_member id joiner d k)) (created_contains id c.entity c.keys after (created_member id after c e)))
 
-  in_child : (id : Id) (c : Creation) → creation id after ≡ Some c → creation id child ≡ Some c
-  in_child id c e = creation_parts id before after ∙ ap (λ o. option_or o (creation id after)) (none (creation id before) refl) ∙ e
-    where
-      none : (o : Option Creation) → creation id before ≡ o → creation id before ≡ None
-      none None k = k
-      none (Some d) k =
-          let in_joiner : Contains (created joiner) id = created_contains id d.entity d.keys joiner (part (Create id d.entity d.keys) (created_member id before d k)) in
-          absurd ((created_once_parts joiner after once).2 id in_joiner (created_contains id c.entity c.keys after (created_member id after c e)))
-
   -- what is dead for the child is dead now
   told_dead : (id : Id) → is_dead child id ≡ true → Dead now id
   told_dead id h = elim (cases_Bool (is_dead before id)) [
@@ -142,16 +130,12 @@ module _ (joiner before after : List Update) (born : List Created) (died : List 
 
   -- a told creation is one of the child's
   told_creation : (id : Id) (c : Creation) → creation id (creates born) ≡ Some c → creation id after ≡ Some c
-  told_creation id c e =
-      let b = borns.only (record { id = id; entity = c.entity; keys = c.keys }) (creates_member born id c e) in
-      let w = some_is (creation id after) b.1 in
-      let same : Some w.0 ≡ Some c = sym (in_child id w.0 w.1) ∙ b.0.0 in
-      w.1 ∙ same
+  told_creation id c e = (borns.only (record { id = id; entity = c.entity; keys = c.keys }) (creates_member born id c e)).0
 
   -- a living creation of the child's is told
   tells : (id : Id) (c : Creation) → creation id after ≡ Some c → is_dead child id ≡ false → creation id now ≡ Some c
   tells id c e live =
-      let m = borns.every (record { id = id; entity = c.entity; keys = c.keys }) ((in_child id c e, live), ap is_some e) in
+      let m = borns.every (record { id = id; entity = c.entity; keys = c.keys }) (e, live) in
       let k = member_creates born (record { id = id; entity = c.entity; keys = c.keys }) m in
       creation_now id (new_here id c e) ∙ k.1 ∙ sym (told_creation id k.0 k.1) ∙ e
 
@@ -234,7 +218,7 @@ module _ (joiner before after : List Update) (born : List Created) (died : List 
 
       at : (o : Option Creation) → creation id after ≡ o → is_created id (creates born) ≡ is_created id after
       at (Some c) e =
-          let m = borns.every (record { id = id; entity = c.entity; keys = c.keys }) ((in_child id c e, live_child), ap is_some e) in
+          let m = borns.every (record { id = id; entity = c.entity; keys = c.keys }) (e, live_child) in
           let k = member_creates born (record { id = id; entity = c.entity; keys = c.keys }) m in
           ap is_some k.1 ∙ sym (ap is_some e)
       at None e = none (creation id (creates born)) refl e ∙ sym (ap is_some e)

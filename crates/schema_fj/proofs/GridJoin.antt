@@ -1,15 +1,10 @@
 -- A grid of a joiner after the effects of a child's grid.
 use Rattle.std.proofs.Common.{◌≡◌, refl, sym, ◌∙◌, ap, subst, Bool, true, false, cond, List, [], ◌∷◌, ◌++◌}
-use Rattle.std.specs.Prelude.{Option, Some, not, ◌||◌}
+use Rattle.std.specs.Prelude.{Option, not, ◌||◌}
 use Rattle.std.specs.List.{flat_map}
 use Rattle.cloud_base.specs.Log as plain_log
 use Rattle.std.specs.Cmp.{IsTotalOrder}
-use Rattle.std.proofs.lemmas.Bool.{or_parts}
 use Rattle.cloud_base.specs.Values.{Id}
-use Rattle.cloud_base.specs.Alike.{IsPart}
-use Rattle.cloud_base.specs.Dead.{has_dead}
-use Rattle.cloud_base.specs.Shaped.{CreatedOnce, cell_type}
-use Rattle.cloud_base.specs.Sorted.{Lists}
 use Rattle.cloud_base.specs.declared.schema.Schema.{Schema}
 use Rattle.cloud_base.specs.declared.schema.CellType.{CellType}
 use Rattle.cloud_base.specs.declared.update.CellChange.{CellChange}
@@ -18,30 +13,20 @@ use Rattle.fj_core.specs.declared.effect.Effect.{Effect}
 use Rattle.fj_array.specs.declared.cell.Cell.{Cell}
 use Rattle.fj_array.specs.declared.effect.CellEffect.{CellEffect}
 use Rattle.fj_array.specs.Cells.{At, of_cell, cell_order, has_id, without}
-use Rattle.fj_array.specs.Effects.{cell_of, effect_order}
+use Rattle.fj_array.specs.Effects.{cell_of}
 use Rattle.fj_array.specs.Grids.{GridStands}
 use Rattle.schema_fj.proofs.CellFacts.{IsLawful, of_cell-append}
 use Rattle.schema_fj.proofs.CellFacts.{Apart, of_cell-without}
-use Rattle.schema_fj.specs.States.{changes_in, left_out, same_type}
+use Rattle.schema_fj.specs.States.{changes_in, left_out}
 use Rattle.schema_fj.specs.Purged.{without_all, has_any, Purges}
 use Rattle.schema_fj.proofs.Changes.{ByParts, KeysApart, changes_in-append}
-use Rattle.schema_fj.proofs.CellLaws.{same_changes, no_changes, of_changes, grid_same}
+use Rattle.schema_fj.proofs.CellLaws.{no_changes, of_changes, grid_same}
 use Rattle.schema_fj.specs.Joined.{joined}
-use Rattle.schema_fj.proofs.JoinLaws.{effects_do}
-use Rattle.cloud_base.proofs.LogLemmas.{part_joined}
-use Rattle.cloud_base.proofs.DeadLemmas.{keys_live}
+use Rattle.schema_fj.proofs.JoinLaws.{Tells, effects_do}
 
 -- whether a cell is left out
 abbrev pub out : Schema → CellType → List Update → Cell → Bool
 out schema type whole x = left_out schema type whole x.property x.keys
-
--- what isn't left out in the whole isn't left out in a part of it
-pub out_live : (schema : Schema) (type : CellType) (small large : List Update) (x : Cell) → IsPart small large → CreatedOnce large → out schema type large x ≡ false → out schema type small x ≡ false
-out_live schema type small large x part once e =
-    let b = or_parts (not (same_type (cell_type schema x.property) type)) (has_dead large x.keys) e in
-    let live : has_dead small x.keys ≡ false = keys_live small large x.keys part once b.1 in
-    let first : not (same_type (cell_type schema x.property) type) ≡ false = b.0 in
-    λ i. first i || live i
 
 -- ---- ids that are purged one by one
 
@@ -84,32 +69,24 @@ module _ {S C V : Type 0} {plain : List C → V} {effect_of : List C → Option 
           ∙ cut_twice (out schema type before x) (has_any ids x.keys) (flat_map of (plain_log.of_cell x.property x.keys log))
           ∙ sym (of_changes parts keys_apart schema type of after x.property x.keys log ∙ ap (λ b. cond b [] (flat_map of (plain_log.of_cell x.property x.keys log))) (kills x))
 
-  -- A child's effects, put into a grid that stands for the joiner's changes without what the whole kills: a cell
-  -- that lives in the whole lived in the child's log, so its effect is listed.
-  pub joined_stands : (cells : List (Cell × S)) (base delta before after : List Update) (items : List CellEffect)
-      → IsPart before (base ++ delta) → CreatedOnce (base ++ (delta ++ after))
-      → Lists effect_order items (λ it. effect_of (of_cell (cell_of it) (changes_in schema type of (before ++ after) after)) ≡ Some it.effect)
-      → let whole : List Update = base ++ (delta ++ after) in
-      GridStands plain effect_of stands cells (changes_in schema type of whole base)
+  -- told effects, put into a grid that stands for a log without what the whole kills
+  pub joined_stands : (cells : List (Cell × S)) (whole base delta after : List Update) (items : List CellEffect)
+      → Tells effect_of (out schema type whole) (changes_in schema type of whole after) items
+      → GridStands plain effect_of stands cells (changes_in schema type of whole base)
       (changes_in schema type of whole delta ++ joined (λ it. not (out schema type whole (cell_of it))) (changes_in schema type of whole after) items)
       → GridStands plain effect_of stands cells (changes_in schema type of whole base) (changes_in schema type of whole (delta ++ after))
-  joined_stands cells base delta before after items part once lists h =
-      grid_same laws cells (cells_in (base ++ (delta ++ after)) base) (cells_in (base ++ (delta ++ after)) delta ++ (joined (λ it. not (out schema type (base ++ (delta ++ after)) (cell_of it))) (cells_in (base ++ (delta ++ after)) after) items)) (cells_in (base ++ (delta ++ after)) base) (cells_in (base ++ (delta ++ after)) (delta ++ after)) (λ x. refl) same h
+  joined_stands cells whole base delta after items tells h =
+      grid_same laws cells (cells_in whole base) (cells_in whole delta ++ (joined (λ it. not (out schema type whole (cell_of it))) (cells_in whole after) items)) (cells_in whole base) (cells_in whole (delta ++ after)) (λ x. refl) same h
     where
-      due : (x : Cell) → out schema type (base ++ (delta ++ after)) x ≡ false → of_cell x (cells_in (before ++ after) after) ≡ of_cell x (cells_in (base ++ (delta ++ after)) after)
-      due x e =
-          same_changes parts keys_apart schema type of (before ++ after) (base ++ (delta ++ after)) x.property x.keys after
-          (out_live schema type (before ++ after) (base ++ (delta ++ after)) x (part_joined base delta before after part) once e ∙ sym e)
-
-      same : (x : Cell) → effect_of (of_cell x (cells_in (base ++ (delta ++ after)) delta ++ (joined (λ it. not (out schema type (base ++ (delta ++ after)) (cell_of it))) (cells_in (base ++ (delta ++ after)) after) items))) ≡ effect_of (of_cell x (cells_in (base ++ (delta ++ after)) (delta ++ after)))
+      same : (x : Cell) → effect_of (of_cell x (cells_in whole delta ++ (joined (λ it. not (out schema type whole (cell_of it))) (cells_in whole after) items))) ≡ effect_of (of_cell x (cells_in whole (delta ++ after)))
       same x =
-          ap effect_of (of_cell-append x (cells_in (base ++ (delta ++ after)) delta) (joined (λ it. not (out schema type (base ++ (delta ++ after)) (cell_of it))) (cells_in (base ++ (delta ++ after)) after) items))
-          ∙ laws.effect_append (of_cell x (cells_in (base ++ (delta ++ after)) delta)) (of_cell x (joined (λ it. not (out schema type (base ++ (delta ++ after)) (cell_of it))) (cells_in (base ++ (delta ++ after)) after) items))
-          ∙ ap (laws.combined (effect_of (of_cell x (cells_in (base ++ (delta ++ after)) delta))))
-          (effects_do apart total effect_of (out schema type (base ++ (delta ++ after))) (cells_in (before ++ after) after) (cells_in (base ++ (delta ++ after)) after) due
-          (λ y e. no_changes parts keys_apart schema type of (base ++ (delta ++ after)) y.property y.keys after e) items lists laws.effect_empty x)
-          ∙ sym (laws.effect_append (of_cell x (cells_in (base ++ (delta ++ after)) delta)) (of_cell x (cells_in (base ++ (delta ++ after)) after)))
-          ∙ sym (ap effect_of (ap (of_cell x) (changes_in-append schema type of (base ++ (delta ++ after)) delta after) ∙ of_cell-append x (cells_in (base ++ (delta ++ after)) delta) (cells_in (base ++ (delta ++ after)) after)))
+          ap effect_of (of_cell-append x (cells_in whole delta) (joined (λ it. not (out schema type whole (cell_of it))) (cells_in whole after) items))
+          ∙ laws.effect_append (of_cell x (cells_in whole delta)) (of_cell x (joined (λ it. not (out schema type whole (cell_of it))) (cells_in whole after) items))
+          ∙ ap (laws.combined (effect_of (of_cell x (cells_in whole delta))))
+          (effects_do apart total effect_of (out schema type whole) (cells_in whole after)
+          (λ y e. no_changes parts keys_apart schema type of whole y.property y.keys after e) items tells laws.effect_empty x)
+          ∙ sym (laws.effect_append (of_cell x (cells_in whole delta)) (of_cell x (cells_in whole after)))
+          ∙ sym (ap effect_of (ap (of_cell x) (changes_in-append schema type of whole delta after) ∙ of_cell-append x (cells_in whole delta) (cells_in whole after)))
 
 pub without_more : {C : Type 0} (ids : List Id) (id : Id) (log : List (At C)) → without_all (ids ++ id ∷ []) log ≡ without id (without_all ids log)
 without_more [] id log = refl

@@ -11,7 +11,6 @@ use Rattle.std.proofs.lemmas.List.{append-nil, append_assoc}
 use Rattle.std.proofs.lemmas.List.Elements.{All-from_recursion, All-contains, Contains-append_left, Contains-append_right}
 use Rattle.std.proofs.lemmas.Map.Keys.{sorted_head, sorted_tail}
 use Rattle.cloud_base.proofs.SortedLemmas.{here, there, none_in, split_member}
-use Rattle.cloud_base.specs.Sorted.{Lists}
 use Rattle.fj_core.specs.declared.effect.Effect.{Effect}
 use Rattle.fj_array.specs.declared.cell.Cell.{Cell}
 use Rattle.fj_array.specs.declared.effect.CellEffect.{CellEffect}
@@ -44,12 +43,18 @@ only_other apart cell q (u ∷ log) n = other_step apart (same_cell u.cell cell)
 
 -- ---- the changes that a list of effects stands for
 
-pub joined-push : {C : Type 0} (live : CellEffect → Bool) (log : List (At C)) (items : List CellEffect) (it : CellEffect)
-    → joined live log (items ++ it ∷ []) ≡ joined live log items ++ cond (live it) (only (cell_of it) log) []
-joined-push live log [] it = append-nil (cond (live it) (only (cell_of it) log) [])
-joined-push live log (x ∷ items) it =
-    ap (λ l. cond (live x) (only (cell_of x) log) [] ++ l) (joined-push live log items it)
-    ∙ sym (append_assoc (cond (live x) (only (cell_of x) log) []) (joined live log items) (cond (live it) (only (cell_of it) log) []))
+pub joined-append : {C : Type 0} (live : CellEffect → Bool) (log : List (At C)) (items more : List CellEffect) → joined live log (items ++ more) ≡ joined live log items ++ joined live log more
+joined-append live log [] more = refl
+joined-append live log (x ∷ items) more =
+    ap (λ l. cond (live x) (only (cell_of x) log) [] ++ l) (joined-append live log items more)
+    ∙ sym (append_assoc (cond (live x) (only (cell_of x) log) []) (joined live log items) (joined live log more))
+
+pub joined_same : {C : Type 0} (live live' : CellEffect → Bool) (log : List (At C)) (items : List CellEffect) → ((it : CellEffect) → Contains items it → live it ≡ live' it) → joined live log items ≡ joined live' log items
+joined_same live live' log [] f = refl
+joined_same live live' log (it ∷ items) f =
+    let a = f it (here it items) in
+    let b = joined_same live live' log items (λ x m. f x (there it x items m)) in
+    λ i. cond (a i) (only (cell_of it) log) [] ++ b i
 
 module _ {C : Type 0} (apart : Apart) (total : IsTotalOrder cell_order) (live : CellEffect → Bool) (log : List (At C)) where
   piece_other : (b : Bool) (cell x : Cell) → (b ≡ true → same_cell cell x ≡ true → ⊥) → of_cell x (cond b (only cell log) []) ≡ []
@@ -92,25 +97,29 @@ module _ {C : Type 0} (apart : Apart) (total : IsTotalOrder cell_order) (live : 
 
 -- ---- the listed effects do what the changes do
 
--- The effects are those of the changes as the child sees them. A cell that isn't left out in the whole has the
--- same changes in both; one that is left out has none in the whole, and its effect is passed over.
-module _ {C : Type 0} (apart : Apart) (total : IsTotalOrder cell_order) (effect_of : List C → Option Effect) (left : Cell → Bool) (seen log : List (At C))
-    (due : (x : Cell) → left x ≡ false → of_cell x seen ≡ of_cell x log) (gone : (x : Cell) → left x ≡ true → of_cell x log ≡ [])
-    (items : List CellEffect) (lists : Lists effect_order items (λ it. effect_of (of_cell (cell_of it) seen) ≡ Some it.effect)) where
-  absent : (x : Cell) (o : Option Effect) → effect_of (of_cell x seen) ≡ o → left x ≡ false → effect_of [] ≡ None → effect_of (of_cell x (joined (λ it. not (left (cell_of it))) log items)) ≡ effect_of (of_cell x log)
+-- the items ascend, and tell what is done in the log to each cell that isn't left out
+pub record Tells {C : Type 0} (effect_of : List C → Option Effect) (left : Cell → Bool) (log : List (At C)) (items : List CellEffect) : Type 0 where
+  pub ascends : IsStrictlySortedBy effect_order items
+  pub only : (it : CellEffect) → Contains items it → left (cell_of it) ≡ false → effect_of (of_cell (cell_of it) log) ≡ Some it.effect
+  pub every : (it : CellEffect) → left (cell_of it) ≡ false → effect_of (of_cell (cell_of it) log) ≡ Some it.effect → Contains items it
+
+-- The effect of a cell that is left out is passed over, and such a cell has no changes.
+module _ {C : Type 0} (apart : Apart) (total : IsTotalOrder cell_order) (effect_of : List C → Option Effect) (left : Cell → Bool) (log : List (At C))
+    (gone : (x : Cell) → left x ≡ true → of_cell x log ≡ []) (items : List CellEffect) (tells : Tells effect_of left log items) where
+  absent : (x : Cell) (o : Option Effect) → effect_of (of_cell x log) ≡ o → left x ≡ false → effect_of [] ≡ None → effect_of (of_cell x (joined (λ it. not (left (cell_of it))) log items)) ≡ effect_of (of_cell x log)
   absent x None e live empty =
       let none : of_cell x (joined (λ it. not (left (cell_of it))) log items) ≡ [] =
       joined_none apart total (λ it. not (left (cell_of it))) log x items
-      (λ it m l t. let at : effect_of (of_cell x seen) ≡ Some it.effect = subst (λ (c : Cell). effect_of (of_cell c seen) ≡ Some it.effect) (apart (cell_of it) x t) (lists.only it m) in
+      (λ it m l t. let at : effect_of (of_cell x log) ≡ Some it.effect = subst (λ (c : Cell). effect_of (of_cell c log) ≡ Some it.effect) (apart (cell_of it) x t) (tells.only it m (ap left (apart (cell_of it) x t) ∙ live)) in
       let never : None ≡ Some it.effect = sym e ∙ at in cc) in
-      ap effect_of none ∙ empty ∙ sym e ∙ ap effect_of (due x live)
+      ap effect_of none ∙ empty ∙ sym e
   absent x (Some effect) e live empty =
       let it : CellEffect = record { property = x.property; keys = x.keys; effect = effect } in
-      ap effect_of (joined_one apart total (λ it. not (left (cell_of it))) log it items lists.ascends (lists.every it e) (ap not live))
+      ap effect_of (joined_one apart total (λ it. not (left (cell_of it))) log it items tells.ascends (tells.every it live e) (ap not live))
 
   pub effects_do : effect_of [] ≡ None → (x : Cell) → effect_of (of_cell x (joined (λ it. not (left (cell_of it))) log items)) ≡ effect_of (of_cell x log)
   effects_do empty x = elim (cases_Bool (left x)) [
-    | inr live ↦ absent x (effect_of (of_cell x seen)) refl live empty
+    | inr live ↦ absent x (effect_of (of_cell x log)) refl live empty
     | inl out ↦
         let none : of_cell x (joined (λ it. not (left (cell_of it))) log items) ≡ [] =
         joined_none apart total (λ it. not (left (cell_of it))) log x items
@@ -124,29 +133,31 @@ module _ {S C V : Type 0} (plain : List C → V) (effect_of : List C → Option 
   pub joins_none : (grid : List (Cell × S)) → JoinsAll plain effect_of stands live [] grid grid
   joins_none grid base delta log due held = subst (λ (l : List (At C)). GridStands plain effect_of stands grid base l) (sym (append-nil delta)) held
 
-  earlier : (items : List CellEffect) (it : CellEffect) (log : List (At C)) → ((x : CellEffect) → Contains (items ++ it ∷ []) x → live x ≡ true → effect_of (of_cell (cell_of x) log) ≡ Some x.effect)
-      → (x : CellEffect) → Contains items x → live x ≡ true → effect_of (of_cell (cell_of x) log) ≡ Some x.effect
-  earlier items it log due x m l = due x (Contains-append_left items (it ∷ []) x m) l
-
-  -- a dead item is passed over
-  pub joins_skip : (items more : List CellEffect) (it : CellEffect) (old new : List (Cell × S)) → more ≡ items ++ it ∷ [] → live it ≡ false
-      → JoinsAll plain effect_of stands live items old new → JoinsAll plain effect_of stands live more old new
-  joins_skip items more it old new e dead h =
-      subst (λ (l : List CellEffect). JoinsAll plain effect_of stands live l old new) (sym e)
-      (λ base delta log due held.
-      let same : joined live log (items ++ it ∷ []) ≡ joined live log items = joined-push live log items it ∙ ap (λ b. joined live log items ++ cond b (only (cell_of it) log) []) dead ∙ append-nil (joined live log items) in
-      subst (λ (l : List (At C)). GridStands plain effect_of stands new base (delta ++ l)) (sym same) (h base delta log (earlier items it log due) held))
+  -- an item that doesn't live is passed over
+  pub joins_skip : (it : CellEffect) (grid : List (Cell × S)) → live it ≡ false → JoinsAll plain effect_of stands live (it ∷ []) grid grid
+  joins_skip it grid dead base delta log due held =
+      subst (λ (l : List (At C)). GridStands plain effect_of stands grid base l) (sym (ap (λ b. delta ++ (cond b (only (cell_of it) log) [] ++ [])) dead ∙ append-nil delta)) held
 
   -- and the effect of a living one is put in
-  pub joins_put : Apart → (items more : List CellEffect) (it : CellEffect) (old mid new : List (Cell × S)) → more ≡ items ++ it ∷ [] → live it ≡ true
-      → ((base delta done : List (At C)) → GridStands plain effect_of stands mid base delta → effect_of (of_cell (cell_of it) done) ≡ Some it.effect → AgreeElsewhere (cell_of it) done [] → GridStands plain effect_of stands new base (delta ++ done))
-      → JoinsAll plain effect_of stands live items old mid → JoinsAll plain effect_of stands live more old new
-  joins_put apart items more it old mid new e alive step h =
-      subst (λ (l : List CellEffect). JoinsAll plain effect_of stands live l old new) (sym e)
-      (λ base delta log due held.
+  pub joins_put : Apart → (it : CellEffect) (old new : List (Cell × S)) → live it ≡ true
+      → ((base delta done : List (At C)) → GridStands plain effect_of stands old base delta → effect_of (of_cell (cell_of it) done) ≡ Some it.effect → AgreeElsewhere (cell_of it) done [] → GridStands plain effect_of stands new base (delta ++ done))
+      → JoinsAll plain effect_of stands live (it ∷ []) old new
+  joins_put apart it old new alive step base delta log due held =
       let cell : Cell = cell_of it in
-      let same : joined live log (items ++ it ∷ []) ≡ joined live log items ++ only cell log = joined-push live log items it ∙ ap (λ b. joined live log items ++ cond b (only cell log) []) alive in
-      let effect : effect_of (of_cell cell (only cell log)) ≡ Some it.effect = ap effect_of (only_own cell log) ∙ due it (Contains-append_right items (it ∷ []) it (here it [])) alive in
-      let now = step base (delta ++ joined live log items) (only cell log) (h base delta log (earlier items it log due) held) effect (λ q n. only_other apart cell q log n) in
+      let same : joined live log (it ∷ []) ≡ only cell log = ap (λ b. cond b (only cell log) [] ++ []) alive ∙ append-nil (only cell log) in
+      let effect : effect_of (of_cell cell (only cell log)) ≡ Some it.effect = ap effect_of (only_own cell log) ∙ due it (here it []) alive in
       subst (λ (l : List (At C)). GridStands plain effect_of stands new base (delta ++ l)) (sym same)
-      (subst (λ (l : List (At C)). GridStands plain effect_of stands new base l) (append_assoc delta (joined live log items) (only cell log)) now))
+      (step base delta (only cell log) held effect (λ q n. only_other apart cell q log n))
+
+  pub joins_then : (items more : List CellEffect) (old mid new : List (Cell × S)) → JoinsAll plain effect_of stands live items old mid → JoinsAll plain effect_of stands live more mid new → JoinsAll plain effect_of stands live (items ++ more) old new
+  joins_then items more old mid new f g base delta log due held =
+      subst (λ (l : List (At C)). GridStands plain effect_of stands new base (delta ++ l)) (sym (joined-append live log items more))
+      (subst (λ (l : List (At C)). GridStands plain effect_of stands new base l) (append_assoc delta (joined live log items) (joined live log more))
+      (g base (delta ++ joined live log items) log (λ it m l. due it (Contains-append_right items more it m) l)
+      (f base delta log (λ it m l. due it (Contains-append_left items more it m) l) held)))
+
+  pub joins_same : (live' : CellEffect → Bool) (items : List CellEffect) (old new : List (Cell × S)) → ((it : CellEffect) → Contains items it → live it ≡ live' it)
+      → JoinsAll plain effect_of stands live items old new → JoinsAll plain effect_of stands live' items old new
+  joins_same live' items old new f h base delta log due held =
+      subst (λ (l : List (At C)). GridStands plain effect_of stands new base (delta ++ l)) (joined_same live live' log items f)
+      (h base delta log (λ it m l. due it m (sym (f it m) ∙ l)) held)

@@ -1,6 +1,7 @@
 pub mod CellFacts
 pub mod CellLaws
 pub mod Changes
+pub mod Effects
 pub mod FateLaws
 pub mod GridJoin
 pub mod JoinLaws

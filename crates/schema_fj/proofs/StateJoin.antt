@@ -14,6 +14,7 @@ use Rattle.cloud_base.specs.Values.{Id}
 use Rattle.cloud_base.specs.Order.{id_order}
 use Rattle.cloud_base.specs.Alike.{IsPart}
 use Rattle.cloud_base.specs.Dead.{is_dead}
+use Rattle.cloud_base.specs.Log as plain_log
 use Rattle.cloud_base.specs.Log.{Creation, creation, is_created}
 use Rattle.cloud_base.specs.Shaped.{Fit, CreatedOnce, cell_type}
 use Rattle.cloud_base.specs.Sorted.{Lists}
@@ -24,7 +25,7 @@ use Rattle.cloud_base.specs.declared.update.CellChange.{CellChange}
 use Rattle.cloud_base.specs.declared.update.Update.{Update}
 use Rattle.cloud_base.specs.declared.update.Update.TheVariants.{Create, Delete}
 use Rattle.cloud_base.proofs.SortedLemmas.{here, there, none_in, split_member}
-use Rattle.cloud_base.proofs.LogLemmas.{creation_parts, created_member, created_contains, created_once_parts}
+use Rattle.cloud_base.proofs.LogLemmas.{creation_parts, created_member, created_contains, created_once_parts, is_created_decides}
 use Rattle.cloud_base.proofs.DeadLemmas.{has_dead_same, created_then}
 use Rattle.fj_core.specs.declared.effect.Effect.{Effect}
 use Rattle.fj_core.specs.Changes.{ints, texts}
@@ -44,15 +45,17 @@ use Rattle.fj_entity.specs.Fates.{fate_at, created_at, found}
 use Rattle.fj_entity.specs.Rosters.{RosterStands, IsLiving, IsNewlyDead, created_order}
 use Rattle.fj_entity.proofs.WalkLemmas.{living_made, made_living}
 use Rattle.schema_fj.specs.Held.{Held}
-use Rattle.schema_fj.specs.Joined.{JoinsAll, lives}
+use Rattle.schema_fj.specs.Joined.{JoinsCells, IsMerge, is_of}
+use Rattle.change_lists.specs.Lists.{ChangeLists}
+use Rattle.change_lists.specs.Effects.{IsBorn, IsDone, IsEffect}
 use Rattle.schema_fj.specs.States.{same_type, changes_in, StateHolds}
-use Rattle.schema_fj.specs.Told.{AreNew, IsBorn, SameFates, creates, deletes}
+use Rattle.schema_fj.specs.Told.{AreNew, SameFates, creates, deletes}
 use Rattle.schema_fj.proofs.CellFacts.{IsLawful, ints_lawful, texts_lawful}
 use Rattle.schema_fj.proofs.Changes.{changes_in-append}
 use Rattle.schema_fj.proofs.CellLaws.{same_changes, grid_same}
 use Rattle.schema_fj.proofs.FateLaws.{told_fates, born_same, roster_same}
-use Rattle.schema_fj.proofs.JoinOne.{join_stands}
-use Rattle.schema_fj.proofs.StateSteps.{Orders, keys_apart, lists_as}
+use Rattle.schema_fj.proofs.JoinOne.{join_stands, told_of, effect_is_of}
+use Rattle.schema_fj.proofs.StateSteps.{Orders, keys_apart, lists_as, type_is}
 
 -- ---- what is told of ids
 
@@ -115,16 +118,26 @@ module _ (fates : List (Id × Fate)) where
         at None e r = r
         at (Some d) e r = (above x ids d (living_of fates log x d stands e).0 (sorted_head id_order x ids s), r)
 
+-- a creation in the later log is the first of its id
+later : (before after : List Update) (id : Id) → CreatedOnce (before ++ after) → is_created id after ≡ true → creation id (before ++ after) ≡ creation id after
+later before after id once t = creation_parts id before after ∙ at (creation id before) refl
+  where
+    at : (o : Option Creation) → creation id before ≡ o → option_or o (creation id after) ≡ creation id after
+    at None e = refl
+    at (Some d) e = absurd ((created_once_parts before after once).2 id (created_contains id d.entity d.keys before (created_member id before d e)) ((is_created_decides id after).0 t))
+
 -- what a state tells of its creations
-pub told_born : (fates : List (Id × Fate)) (before after : List Update) (born : List Id) (list : List Created) → RosterStands fates (before ++ after) → list ≡ filter_map (found fates) born
+pub told_born : (fates : List (Id × Fate)) (before after : List Update) (born : List Id) (list : List Created) → CreatedOnce (before ++ after) → RosterStands fates (before ++ after) → list ≡ filter_map (found fates) born
     → Lists id_order born (λ x. (is_created x after ≡ true) × (is_dead (before ++ after) x ≡ false)) → Lists created_order list (IsBorn before after)
-told_born fates before after born list stands is h = subst (λ (l : List Created). Lists created_order l (IsBorn before after)) (sym is) (record {
+told_born fates before after born list once stands is h = subst (λ (l : List Created). Lists created_order l (IsBorn before after)) (sym is) (record {
   ascends = told_ascends fates (before ++ after) stands born h.ascends;
   only = λ c m.
       let w = told_only fates born c m in
       let l = living_of fates (before ++ after) w.0 c stands w.2 in
-      (l.1, ap (λ x. is_created x after) l.0 ∙ (h.only w.0 w.1).0);
-  every = λ c b. told_every fates born c.id c (h.every c.id (b.1, b.0.1)) (found_of fates (before ++ after) c stands b.0);
+      (sym (later before after c.id once (ap (λ x. is_created x after) l.0 ∙ (h.only w.0 w.1).0)) ∙ l.1.0, l.1.1);
+  every = λ c b.
+      let t : is_created c.id after ≡ true = ap is_some b.0 in
+      told_every fates born c.id c (h.every c.id (t, b.1)) (found_of fates (before ++ after) c stands (later before after c.id once t ∙ b.0, b.1));
 })
 
 -- each told creation is new when its turn comes
@@ -173,41 +186,56 @@ retold {C = C} {effect_of = effect_of} laws orders schema type of now whole base
         (ap (λ b. not (same_type (cell_type schema x.property) type) || b) (has_dead_same now whole x.keys (λ id m. dead id)))
 
 pub new_to_joiner : (joiner before after : List Update) (list : List Created) → CreatedOnce (joiner ++ after) → Lists created_order list (IsBorn before after) → (c : Created) → Contains list c → creation c.id joiner ≡ None
-new_to_joiner joiner before after list once lists c m = at (creation c.id joiner) refl (creation c.id after) refl (lists.only c m).1
+new_to_joiner joiner before after list once lists c m = at (creation c.id joiner) refl
   where
-    at : (o : Option Creation) → creation c.id joiner ≡ o → (p : Option Creation) → creation c.id after ≡ p → is_some p ≡ true → creation c.id joiner ≡ None
-    at None e p k t = e
-    at (Some d) e None k t = absurd (false≢true t)
-    at (Some d) e (Some f) k t = absurd ((created_once_parts joiner after once).2 c.id (created_contains c.id d.entity d.keys joiner (created_member c.id joiner d e)) (created_contains c.id f.entity f.keys after (created_member c.id after f k)))
+    at : (o : Option Creation) → creation c.id joiner ≡ o → creation c.id joiner ≡ None
+    at None e = e
+    at (Some d) e = absurd ((created_once_parts joiner after once).2 c.id (created_contains c.id d.entity d.keys joiner (created_member c.id joiner d e)) (created_contains c.id c.entity c.keys after (created_member c.id after (record { entity = c.entity; keys = c.keys }) (lists.only c m).0)))
 
-pub joined_holds : (schema : Schema) (s : Held) (base delta before after : List Update) (orders : Orders) (list : List Created) (ids : List Id) (nums words : List CellEffect) (numbers : List (Cell × IntCell)) (texts' : List (Cell × TextCell))
-    → IsPart before (base ++ delta) → Fit schema (base ++ (delta ++ after)) → Lists created_order list (IsBorn before after) → Lists id_order ids (IsNewlyDead before (before ++ after))
-    → StateHolds schema s base (delta ++ (creates list ++ deletes ids))
-    → Lists effect_order nums (λ it. int_effect (of_cell (cell_of it) (changes_in schema cell.Int ints (before ++ after) after)) ≡ Some it.effect)
-    → Lists effect_order words (λ it. text_effect (of_cell (cell_of it) (changes_in schema cell.Text texts (before ++ after) after)) ≡ Some it.effect)
-    → JoinsAll int_plain int_effect IntStands (lives s.fates) nums s.numbers numbers → JoinsAll text_plain text_effect TextStands (lives s.fates) words s.texts texts'
-    → StateHolds schema (record { types = s.types; numbers = numbers; texts = texts'; fates = s.fates; born = s.born; died = s.died }) base (delta ++ after)
-joined_holds schema s base delta before after orders list ids nums words numbers texts' part fit borns dies h ln lt jn jt = record {
-  types = h.types;
-  numbers = join_stands ints_lawful orders.parts keys_apart orders.apart orders.total schema cell.Int ints base delta before after nums s.fates part fit.once ln roster s.numbers numbers jn
-      (retold ints_lawful orders schema cell.Int ints (base ++ (delta ++ (creates list ++ deletes ids))) (base ++ (delta ++ after)) base delta list ids s.numbers same.dead h.numbers);
-  texts = join_stands texts_lawful orders.parts keys_apart orders.apart orders.total schema cell.Text texts base delta before after words s.fates part fit.once lt roster s.texts texts' jt
-      (retold texts_lawful orders schema cell.Text texts (base ++ (delta ++ (creates list ++ deletes ids))) (base ++ (delta ++ after)) base delta list ids s.texts same.dead h.texts);
-  roster = roster;
-  born = lists_as s.born (λ x. (is_created x (delta ++ (creates list ++ deletes ids)) ≡ true) × (is_dead (base ++ (delta ++ (creates list ++ deletes ids))) x ≡ false))
-      (λ x. (is_created x (delta ++ after) ≡ true) × (is_dead (base ++ (delta ++ after)) x ≡ false))
-      (λ x b. let live = sym (same.dead x) ∙ b.1 in (sym (made x live) ∙ b.0, live)) (λ x b. (made x b.1 ∙ b.0, same.dead x ∙ b.1)) h.born;
-  died = lists_as s.died (λ x. (is_dead (base ++ (delta ++ (creates list ++ deletes ids))) x ≡ true) × (is_dead base x ≡ false))
-      (λ x. (is_dead (base ++ (delta ++ after)) x ≡ true) × (is_dead base x ≡ false))
-      (λ x d. (sym (same.dead x) ∙ d.0, d.1)) (λ x d. (same.dead x ∙ d.0, d.1)) h.died;
+-- what is told of the cells is of the types of their properties
+told_own : (schema : Schema) (before after : List Update) (items : List CellEffect) → Lists effect_order items (IsDone schema before after) → (it : CellEffect) → Contains items it → is_of (cell_type schema it.property) it.effect ≡ true
+told_own schema before after items lists it m = effect_is_of (cell_type schema it.property) (plain_log.of_cell it.property it.keys after) it.effect (lists.only it m).1
+
+pub joined_holds : (schema : Schema) (s new : Held) (base delta before after : List Update) (orders : Orders) (change : ChangeLists)
+    → IsPart before (base ++ delta) → Fit schema (base ++ (delta ++ after)) → IsEffect schema before after change
+    → StateHolds schema s base (delta ++ (creates change.created ++ deletes change.dead))
+    → JoinsCells change.cells s new → StateHolds schema new base (delta ++ after)
+joined_holds schema s new base delta before after orders change part fit told h joins = record {
+  types = joins.kept.types ∙ h.types;
+  numbers = join_stands ints_lawful orders.parts keys_apart orders.apart orders.total schema cell.Int ints whole base delta after change.cells s.types s.fates
+      (told_of int_effect ints cell.Int orders.parts keys_apart schema (λ l. refl) whole base delta before after change.cells refl part fit.once told.cells)
+      (λ p. type_is schema s.types p h.types) (told_own schema before after change.cells told.cells) roster s.numbers new.numbers joins.numbers
+      (retold ints_lawful orders schema cell.Int ints (base ++ (delta ++ (creates list ++ deletes ids))) whole base delta list ids s.numbers same.dead h.numbers);
+  texts = join_stands texts_lawful orders.parts keys_apart orders.apart orders.total schema cell.Text texts whole base delta after change.cells s.types s.fates
+      (told_of text_effect texts cell.Text orders.parts keys_apart schema (λ l. refl) whole base delta before after change.cells refl part fit.once told.cells)
+      (λ p. type_is schema s.types p h.types) (told_own schema before after change.cells told.cells) roster s.texts new.texts joins.texts
+      (retold texts_lawful orders schema cell.Text texts (base ++ (delta ++ (creates list ++ deletes ids))) whole base delta list ids s.texts same.dead h.texts);
+  roster = subst (λ f. RosterStands f whole) (sym joins.kept.fates) roster;
+  born = subst (λ (l : List Id). Lists id_order l (λ x. (is_created x (delta ++ after) ≡ true) × (is_dead whole x ≡ false))) (sym joins.kept.born)
+      (lists_as s.born (λ x. (is_created x (delta ++ (creates list ++ deletes ids)) ≡ true) × (is_dead (base ++ (delta ++ (creates list ++ deletes ids))) x ≡ false))
+      (λ x. (is_created x (delta ++ after) ≡ true) × (is_dead whole x ≡ false))
+      (λ x b. let live = sym (same.dead x) ∙ b.1 in (sym (made x live) ∙ b.0, live)) (λ x b. (made x b.1 ∙ b.0, same.dead x ∙ b.1)) h.born);
+  died = subst (λ (l : List Id). Lists id_order l (λ x. (is_dead whole x ≡ true) × (is_dead base x ≡ false))) (sym joins.kept.died)
+      (lists_as s.died (λ x. (is_dead (base ++ (delta ++ (creates list ++ deletes ids))) x ≡ true) × (is_dead base x ≡ false))
+      (λ x. (is_dead whole x ≡ true) × (is_dead base x ≡ false))
+      (λ x d. (sym (same.dead x) ∙ d.0, d.1)) (λ x d. (same.dead x ∙ d.0, d.1)) h.died);
 }
   where
+    list : List Created
+    list = change.created
+
+    ids : List Id
+    ids = change.dead
+
+    whole : List Update
+    whole = base ++ (delta ++ after)
+
     once : CreatedOnce (base ++ delta ++ after)
     once = subst CreatedOnce (sym (append_assoc base delta after)) fit.once
 
     same : SameFates (base ++ (delta ++ (creates list ++ deletes ids))) (base ++ (delta ++ after))
     same = subst (λ l. SameFates l (base ++ (delta ++ after))) (append_assoc base delta (creates list ++ deletes ids))
-        (subst (SameFates (base ++ delta ++ (creates list ++ deletes ids))) (append_assoc base delta after) (told_fates (base ++ delta) before after list ids part once borns dies))
+        (subst (SameFates (base ++ delta ++ (creates list ++ deletes ids))) (append_assoc base delta after) (told_fates (base ++ delta) before after list ids part once told.created told.dead))
 
     roster : RosterStands s.fates (base ++ (delta ++ after))
     roster = roster_same s.fates (base ++ (delta ++ (creates list ++ deletes ids))) (base ++ (delta ++ after)) same h.roster
@@ -216,7 +244,7 @@ joined_holds schema s base delta before after orders list ids nums words numbers
     made x live =
         made_parts delta (creates list ++ deletes ids) x
         ∙ ap (λ b. is_created x delta || b) (made_parts (creates list) (deletes ids) x ∙ ap (λ b. is_created x (creates list) || b) (deletes_make_nothing ids x) ∙ or_false (is_created x (creates list))
-        ∙ born_same (base ++ delta) before after list ids part once borns dies x (ap (λ l. is_dead l x) (append_assoc base delta after) ∙ live))
+        ∙ born_same (base ++ delta) before after list ids part once told.created told.dead x (ap (λ l. is_dead l x) (append_assoc base delta after) ∙ live))
         ∙ sym (made_parts delta after x)
 
 -- ---- the loops
@@ -255,9 +283,3 @@ so_far_more schema old s base delta done done' rest rest' c d r step h =
 pub deleted_more : (schema : Schema) (s : Held) (base delta : List Update) (ids ids' : List Id) (id : Id) → ids' ≡ ids ++ id ∷ [] → StateHolds schema s base (delta ++ deletes ids ++ Delete id ∷ []) → StateHolds schema s base (delta ++ deletes ids')
 deleted_more schema s base delta ids ids' id e h =
     subst (StateHolds schema s base) (append_assoc delta (deletes ids) (Delete id ∷ []) ∙ ap (λ l. delta ++ l) (sym (deletes-push ids id) ∙ ap deletes (sym e))) h
-
--- ---- effects of a grid are of its type
-
-pub all_own : (Own : Effect → Type 0) (effect_at : CellEffect → Option Effect) (list : List CellEffect) → ((it : CellEffect) (effect : Effect) → effect_at it ≡ Some effect → Own effect)
-    → Lists effect_order list (λ it. effect_at it ≡ Some it.effect) → All (λ it. Own it.effect) list
-all_own Own effect_at list own lists = All-weaker (Contains list) (λ it. Own it.effect) (λ it m. own it it.effect (lists.only it m)) list (All-contains_itself list)

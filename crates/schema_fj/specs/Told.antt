@@ -1,12 +1,11 @@
 -- What a child tells of ids.
-use Rattle.std.specs.Prelude.{◌≡◌, refl, ⊤, true, false, List, [], ◌∷◌, ◌++◌, Some, None}
+use Rattle.std.specs.Prelude.{◌≡◌, refl, ⊤, false, List, [], ◌∷◌, ◌++◌, Some, None}
 use Rattle.cloud_base.specs.Values.{Id}
-use Rattle.cloud_base.specs.Log.{creation, is_created}
+use Rattle.cloud_base.specs.Log.{creation}
 use Rattle.cloud_base.specs.Dead.{is_dead}
 use Rattle.cloud_base.specs.declared.update.Update.{Update}
 use Rattle.cloud_base.specs.declared.update.Update.TheVariants.{Create, Delete}
 use Rattle.fj_entity.specs.declared.created.Created.{Created}
-use Rattle.fj_entity.specs.Rosters.{IsLiving}
 
 -- logs with the same dead ids, and the same creations of those that live
 pub record SameFates (log other : List Update) : Type 0 where
@@ -26,10 +25,6 @@ deletes (id ∷ list) = Delete id ∷ deletes list
 abbrev pub AreNew : List Created → List Update → Type 0
 AreNew [] log = ⊤
 AreNew (c ∷ list) log = (creation c.id log ≡ None) × AreNew list (log ++ Create c.id c.entity c.keys ∷ [])
-
--- created after and living in the whole
-abbrev pub IsBorn : List Update → List Update → Created → Type 0
-IsBorn before after c = IsLiving (before ++ after) c × (is_created c.id after ≡ true)
 
 module _ where
   abbrev order : Id

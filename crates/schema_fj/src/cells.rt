@@ -1,26 +1,25 @@
 // What is done to the grid of one type of cell.
-ghost use Rattle.std.specs.Prelude.{◌≡◌, All, List, [], ◌∷◌, ◌++◌, map, ◌↔◌, IsTrue, Option, Some};
+ghost use Rattle.std.specs.Prelude.{◌≡◌, List, [], ◌∷◌, ◌++◌, map, IsTrue};
 ghost use Rattle.std.specs.Prelude.{IfOk, OnOk, OnErr};
-ghost use Rattle.cloud_base.specs.Sorted.{Lists};
-ghost use Rattle.fj_array.specs.Effects.{cell_of, effect_order};
-ghost use Rattle.fj_core.specs.IntCells.{int_plain, int_effect, IntStands, IsIntEffect};
-ghost use Rattle.fj_core.specs.TextCells.{text_plain, text_effect, TextStands, IsTextEffect};
-ghost use Rattle.fj_core.specs.declared.int_cell.IntChange.{IntChange};
-ghost use Rattle.fj_core.specs.declared.text_cell.TextChange.{TextChange};
 ghost use Rattle.std.specs.Option.{option_to_list};
+ghost use Rattle.cloud_base.specs.declared.schema.CellType.TheVariants as CellType;
 ghost use Rattle.cloud_base.specs.declared.update.CellChange.{CellChange};
 ghost use Rattle.fj_core.specs.Changes.{ints, texts};
-ghost use Rattle.fj_array.specs.Cells.{At, of_cell};
+ghost use Rattle.fj_array.specs.Cells.{At};
+ghost use Rattle.fj_array.specs.Effects.{effect_order};
 ghost use Rattle.fj_array.specs.Grids.{GridStands};
 ghost use Rattle.fj_array.specs.declared.cell.Cell.{Cell};
-ghost use Rattle.schema_fj.specs.Joined.{JoinsAll, lives};
+ghost use Rattle.change_lists.specs.Lists.{IsChangeLists};
+ghost use Rattle.schema_fj.specs.Joined.{JoinsAll, IsMerge, is_of};
 ghost use Rattle.schema_fj.specs.Purged.{Purges};
 
-use cloud_base::{CellChange, Keys, Memory, Sequence, Uid};
+use change_lists::{Change, total_list_orders};
+use cloud_base::{CellChange, IdList, Keys, Memory, Sequence, Uid};
 use fj_array::{CellEffect, EffectList, Grid, cell_orders};
-use fj_core::{Effect, ForkJoin, IntCell, IntChange, TextCell, TextChange};
-use fj_entity::Roster;
+use fj_core::{Effect, ForkJoin, IntChange, TextChange};
+use fj_entity::CreatedList;
 use std::alloc::Global;
+use std::cmp::Ordering;
 
 /// A change of a number, where it is one.
 pub(crate) fn number_change(change: &CellChange) -> Option<IntChange>
@@ -73,76 +72,75 @@ pub(crate) fn purge_all<C: ForkJoin>(grid: &mut Grid<C>, ids: &[Uid])
     }
 }
 
-/// Does what the effects say to each cell that has no dead key. After a refusal for memory some
-/// are done.
-pub(crate) fn join_all<C: ForkJoin>(
-    grid: &mut Grid<C>,
-    items: &[CellEffect],
-    roster: &Roster,
-) -> Result<(), Memory>
-    requires { All (λ it. C.is_own it.effect) items.now }
-    ensures { OnOk result (JoinsAll C.plain C.effect_of C.stands (lives roster.now) items.now
-        grid.old grid.new) }
-{
-    cell_orders();
-    for it in items {
-        if !roster.has_dead(&it.keys) {
-            grid.join_effect(it.property, &it.keys, &it.effect)?;
-        }
-    }
-    Ok(())
-}
-
-fn is_number(it: &CellEffect) -> bool
-    ensures { IsTrue result ↔ IsIntEffect it.now.effect }
+/// Whether an effect is one of numbers.
+pub(crate) fn is_number(it: &CellEffect) -> bool
+    ensures { result ≡ is_of CellType.Int it.now.effect }
 {
     matches!(it.effect, Effect::Add(_) | Effect::SetInt(_))
 }
 
-fn are_numbers(items: &[CellEffect]) -> bool
-    ensures { IsTrue result ↔ All (λ it. IsIntEffect it.effect) items.now }
-{
-    items.iter().all(is_number)
-}
-
-fn is_text(it: &CellEffect) -> bool
-    ensures { IsTrue result ↔ IsTextEffect it.now.effect }
+/// Whether an effect is one of texts.
+pub(crate) fn is_text(it: &CellEffect) -> bool
+    ensures { result ≡ is_of CellType.Text it.now.effect }
 {
     matches!(it.effect, Effect::SetText(_) | Effect::IfEmpty(_))
 }
 
-fn are_texts(items: &[CellEffect]) -> bool
-    ensures { IsTrue result ↔ All (λ it. IsTextEffect it.effect) items.now }
+/// Does an effect to its cell, where it is one of the grid's type.
+pub(crate) fn join_one<C: ForkJoin>(
+    grid: &mut Grid<C>,
+    it: &CellEffect,
+    is_own: bool,
+) -> Result<(), Memory>
+    requires { IsTrue is_own → C.is_own it.now.effect }
+    ensures { OnOk result (JoinsAll C.plain C.effect_of C.stands (λ _. is_own) (it.now ∷ [])
+        grid.old grid.new) }
 {
-    items.iter().all(is_text)
-}
-
-/// What was done to the numbers since the fork.
-pub(crate) fn number_effects(alloc: Global, grid: &Grid<IntCell>) -> Result<EffectList, Memory>
-    ensures own { IfOk result (λ list. All (λ it. IsIntEffect it.effect) list) }
-    ensures lists { IfOk result (λ list. (base delta : List (At IntChange)) →
-        GridStands int_plain int_effect IntStands grid.now base delta →
-        Lists effect_order list (λ it. int_effect (of_cell (cell_of it) delta) ≡ Some it.effect)) }
-{
-    let list = grid.effects()?;
-    if are_numbers(list.as_slice()) {
-        Ok(list)
-    } else {
-        Ok(Sequence::new(alloc))
+    cell_orders();
+    if !is_own {
+        return Ok(());
     }
+    grid.join_effect(it.property, &it.keys, &it.effect)
 }
 
-/// What was done to the texts since the fork.
-pub(crate) fn text_effects(alloc: Global, grid: &Grid<TextCell>) -> Result<EffectList, Memory>
-    ensures own { IfOk result (λ list. All (λ it. IsTextEffect it.effect) list) }
-    ensures lists { IfOk result (λ list. (base delta : List (At TextChange)) →
-        GridStands text_plain text_effect TextStands grid.now base delta →
-        Lists effect_order list (λ it. text_effect (of_cell (cell_of it) delta) ≡ Some it.effect)) }
+fn by_cell(it: &CellEffect, other: &CellEffect) -> Ordering
+    ensures { result ≡ effect_order it.now other.now }
 {
-    let list = grid.effects()?;
-    if are_texts(list.as_slice()) {
-        Ok(list)
+    it.property
+        .cmp(&other.property)
+        .then(it.keys.cmp(&other.keys))
+}
+
+/// The effects of both lists by their cells. Where each is in order, that is one pass over them.
+pub(crate) fn merged(first: EffectList, second: EffectList) -> Result<EffectList, Memory>
+    ensures { IfOk result (λ list. IsMerge first second list) }
+{
+    total_list_orders();
+    cell_orders();
+    let mut effects = first.into_vec();
+    let mut more = second.into_vec();
+    effects.append(&mut more)?;
+    effects.sort_by(by_cell)?;
+    Ok(Sequence::from_vec(effects))
+}
+
+/// The change of these lists, where they are those of a change, and else of none.
+pub(crate) fn change_of(
+    alloc: Global,
+    created: CreatedList,
+    dead: IdList,
+    cells: EffectList,
+) -> Change
+    ensures { IsChangeLists (record { created = created; dead = dead; cells = cells }) →
+        result ≡ record { created = created; dead = dead; cells = cells } }
+{
+    if Change::are_ordered(created.as_slice(), dead.as_slice(), cells.as_slice()) {
+        Change::new(created, dead, cells)
     } else {
-        Ok(Sequence::new(alloc))
+        Change::new(
+            Sequence::new(alloc),
+            Sequence::new(alloc),
+            Sequence::new(alloc),
+        )
     }
 }

@@ -12,24 +12,28 @@ ghost use Rattle.cloud_base.specs.declared.schema.Schema.{Schema};
 ghost use Rattle.cloud_base.specs.declared.update.Answer.TheVariants as Answer;
 ghost use Rattle.cloud_base.specs.declared.update.Query.TheVariants as Query;
 ghost use Rattle.cloud_base.specs.declared.update.Update.{Update};
-ghost use Rattle.cloud_base.specs.declared.update.Update.TheVariants as Change;
+ghost use Rattle.cloud_base.specs.declared.update.Update.TheVariants as Updates;
 ghost use Rattle.fj_core.specs.IntCells.{int_plain, int_effect, IntStands};
 ghost use Rattle.fj_core.specs.TextCells.{text_plain, text_effect, TextStands};
 ghost use Rattle.fj_entity.specs.Fates.{fate_at, found, is_gone};
+ghost use Rattle.change_lists.specs.Effects.{IsEffect};
+ghost use Rattle.schema_fj.specs.Joined.{JoinsCells};
 ghost use Rattle.schema_fj.specs.Purged.{Purges};
 ghost use Rattle.schema_fj.specs.Sets.{type_at};
 ghost use Rattle.schema_fj.specs.States.{StateHolds, StateStands};
 ghost use Rattle.schema_fj.specs.Told.{AreNew, creates, deletes};
 
 use crate::cells::{
-    change_cell, join_all, number_change, number_effects, purge_all, text_change, text_effects,
+    change_cell, change_of, is_number, is_text, join_one, merged, number_change, purge_all,
+    text_change,
 };
 use crate::ids::{add, copy_set, keep_living, take_back, with_all};
+use change_lists::{Change, one_effect};
 use cloud_base::{
     Answer, CellChange, CellType, Keys, Memory, Query, Schema, Sequence, Text, TupleList, Uid,
     Update,
 };
-use fj_array::{Grid, cell_orders};
+use fj_array::{CellEffect, Grid, cell_orders};
 use fj_core::{IntCell, TextCell};
 use fj_entity::{Created, Roster};
 use std::alloc::{AllocError, Global};
@@ -135,7 +139,7 @@ impl State {
     fn change(&mut self, property: u16, keys: &Keys, change: &CellChange) -> Result<(), Memory>
         ensures ok { OnOk result ((schema : Schema) (base delta : List Update) →
             StateHolds schema self.old base delta → StateHolds schema self.new base
-            (delta ++ Change.Cell property keys.now change.now ∷ [])) }
+            (delta ++ Updates.Cell property keys.now change.now ∷ [])) }
         ensures err { OnErr result (self.new ≡ self.old) }
     {
         cell_orders();
@@ -175,7 +179,7 @@ impl State {
     fn delete(&mut self, id: Uid) -> Result<(), Memory>
         ensures ok { OnOk result ((schema : Schema) (base delta : List Update) →
             StateHolds schema self.old base delta →
-            StateHolds schema self.new base (delta ++ Change.Delete id ∷ [])) }
+            StateHolds schema self.new base (delta ++ Updates.Delete id ∷ [])) }
         ensures err { OnErr result (self.new ≡ self.old) }
     {
         cell_orders();
@@ -191,7 +195,7 @@ impl State {
         ensures ok { OnOk result ((schema : Schema) (base delta : List Update) →
             StateHolds schema self.old base delta → creation id (base ++ delta) ≡ None →
             has_dead (base ++ delta) keys.now ≡ true →
-            StateHolds schema self.new base (delta ++ Change.Create id entity keys.now ∷ [])) }
+            StateHolds schema self.new base (delta ++ Updates.Create id entity keys.now ∷ [])) }
         ensures err { OnErr result (self.new ≡ self.old) }
     {
         cell_orders();
@@ -207,7 +211,7 @@ impl State {
         ensures ok { OnOk result ((schema : Schema) (base delta : List Update) →
             StateHolds schema self.old base delta → creation id (base ++ delta) ≡ None →
             has_dead (base ++ delta) keys.now ≡ false → is_dead (base ++ delta) id ≡ false →
-            StateHolds schema self.new base (delta ++ Change.Create id entity keys.now ∷ [])) }
+            StateHolds schema self.new base (delta ++ Updates.Create id entity keys.now ∷ [])) }
         ensures err { OnErr result (self.new ≡ self.old) }
     {
         cell_orders();
@@ -224,7 +228,7 @@ impl State {
     fn create(&mut self, id: Uid, entity: u16, keys: &Keys) -> Result<(), Memory>
         ensures ok { OnOk result ((schema : Schema) (base delta : List Update) →
             StateHolds schema self.old base delta → creation id (base ++ delta) ≡ None →
-            StateHolds schema self.new base (delta ++ Change.Create id entity keys.now ∷ [])) }
+            StateHolds schema self.new base (delta ++ Updates.Create id entity keys.now ∷ [])) }
         ensures err { OnErr result (self.new ≡ self.old) }
     {
         cell_orders();
@@ -361,6 +365,59 @@ impl State {
         Ok(())
     }
 
+    // Does an effect to its cell, unless a key of that is dead.
+    fn join_cell(&mut self, it: &CellEffect) -> Result<(), Memory>
+        ensures { OnOk result (JoinsCells (it.now ∷ []) self.old self.new) }
+    {
+        if self.roster.has_dead(&it.keys) {
+            return Ok(());
+        }
+        match self.type_of(it.property) {
+            CellType::Int => join_one(&mut self.numbers, it, is_number(it)),
+            CellType::Text => join_one(&mut self.texts, it, is_text(it)),
+        }
+    }
+
+    fn join_cells(&mut self, items: &[CellEffect]) -> Result<(), Memory>
+        ensures { OnOk result (JoinsCells items.now self.old self.new) }
+    {
+        for it in items {
+            self.join_cell(it)?;
+        }
+        Ok(())
+    }
+
+    /// What was done since the fork.
+    pub fn effect(&self) -> Result<Change, Memory>
+        ensures { IfOk result (λ change. (schema : Schema) (base delta : List Update) →
+            StateStands schema self.now base delta → IsEffect schema base delta change) }
+    {
+        one_effect();
+        cell_orders();
+        let created = Sequence::from_vec(self.told_created()?);
+        let dead = Sequence::from_vec(self.told_dead()?);
+        let cells = merged(self.numbers.effects()?, self.texts.effects()?)?;
+        Ok(change_of(self.alloc, created, dead, cells))
+    }
+
+    /// Does what a change tells. What the teller began with is to be in the log that this state
+    /// stands for, and that log followed by what the teller did is to be fit.
+    pub fn join_change(&mut self, change: &Change) -> Result<(), Memory>
+        ensures ok { OnOk result ((schema : Schema) (base delta before after : List Update) →
+            StateStands schema self.old base delta → IsEffect schema before after change.now →
+            IsPart before (base ++ delta) → Fit schema (base ++ (delta ++ after)) →
+            StateStands schema self.new base (delta ++ after)) }
+        ensures err { OnErr result (self.new ≡ self.old) }
+    {
+        cell_orders();
+        let mut next = self.copied()?;
+        next.create_all(change.created())?;
+        next.delete_all(change.dead())?;
+        next.join_cells(change.cells())?;
+        *self = next;
+        Ok(())
+    }
+
     /// Does what the child did since it was forked. What the child began with is to be in the log
     /// that this state stands for, and that log followed by what the child did is to be fit.
     pub fn join(&mut self, child: &State) -> Result<(), Memory>
@@ -370,17 +427,7 @@ impl State {
             StateStands schema self.new base (delta ++ after)) }
         ensures err { OnErr result (self.new ≡ self.old) }
     {
-        cell_orders();
-        let created = child.told_created()?;
-        let dead = child.told_dead()?;
-        let numbers = number_effects(self.alloc, &child.numbers)?;
-        let texts = text_effects(self.alloc, &child.texts)?;
-        let mut next = self.copied()?;
-        next.create_all(created.as_slice())?;
-        next.delete_all(dead.as_slice())?;
-        join_all(&mut next.numbers, numbers.as_slice(), &next.roster)?;
-        join_all(&mut next.texts, texts.as_slice(), &next.roster)?;
-        *self = next;
-        Ok(())
+        let change = child.effect()?;
+        self.join_change(&change)
     }
 }
