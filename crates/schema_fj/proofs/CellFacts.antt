@@ -1,6 +1,6 @@
 -- The changes of one cell in a log of cells, and what is used of the laws of cells.
 use Rattle.std.proofs.Common.{◌≡◌, refl, ◌∙◌, ap, Bool, true, false, cond, List, [], ◌∷◌, ◌++◌}
-use Rattle.std.specs.Prelude.{Option, None, not}
+use Rattle.std.specs.Prelude.{Option, None, not, filter}
 use Rattle.cloud_base.specs.Values.{Id}
 use Rattle.fj_core.specs.declared.effect.Effect.{Effect}
 use Rattle.fj_core.specs.IntCells.{int_plain, int_effect, IntStands, int_applied, int_combined}
@@ -56,10 +56,14 @@ nothing : {C : Type 0} (b : Bool) → ◌≡◌ {A = List C} [] (cond b [] [])
 nothing true = refl
 nothing false = refl
 
--- the changes of one cell in a log without those of the cells that have an id
+-- the changes of one cell in a log of those cells alone that pass a test
+pub of_cell-kept : {C : Type 0} → Apart → (test : Cell → Bool) (q : Cell) (log : List (At C)) → of_cell q (filter (λ u. test u.cell) log) ≡ cond (test q) (of_cell q log) []
+of_cell-kept apart test q [] = nothing (test q)
+of_cell-kept apart test q (u ∷ log) =
+    of_cell-cond q (test u.cell) u (filter (λ v. test v.cell) log)
+    ∙ without_step (same_cell u.cell q) (test u.cell) (test q) u.change (of_cell q log) (of_cell q (filter (λ v. test v.cell) log))
+    (λ is. ap test (apart u.cell q is)) (of_cell-kept apart test q log)
+
+-- and without those of the cells that have an id
 pub of_cell-without : {C : Type 0} → Apart → (id : Id) (q : Cell) (log : List (At C)) → of_cell q (without id log) ≡ cond (not (has_id id q.keys)) (of_cell q log) []
-of_cell-without apart id q [] = nothing (not (has_id id q.keys))
-of_cell-without apart id q (u ∷ log) =
-    of_cell-cond q (not (has_id id u.cell.keys)) u (without id log)
-    ∙ without_step (same_cell u.cell q) (not (has_id id u.cell.keys)) (not (has_id id q.keys)) u.change (of_cell q log) (of_cell q (without id log))
-    (λ is. ap (λ (c : Cell). not (has_id id c.keys)) (apart u.cell q is)) (of_cell-without apart id q log)
+of_cell-without apart id q log = of_cell-kept apart (λ (c : Cell). not (has_id id c.keys)) q log

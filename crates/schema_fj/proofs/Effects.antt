@@ -1,7 +1,7 @@
 -- What a state tells of its cells: the effects of both grids, in one order.
-use Rattle.std.proofs.Common.{◌≡◌, refl, sym, ◌∙◌, ap, subst, ℕ, ◌<◌, ◌+◌, Bool, true, false, List, [], ◌∷◌, ◌++◌, length, get_or, inl, inr, arith}
+use Rattle.std.proofs.Common.{◌≡◌, refl, sym, ◌∙◌, ap, subst, ◌+◌, Bool, false, List, [], ◌∷◌, ◌++◌, get_or, inl, inr, arith}
 use Rattle.std.specs.Prelude.{◌⊎◌, Contains, Some, pos}
-use Rattle.std.specs.List.{IsDistinct, AllByRecursion}
+use Rattle.std.specs.List.{IsDistinct}
 use Rattle.std.specs.List.Sorted.{IsStrictlySortedBy, IsPermutation, IsSortedBy}
 use Rattle.std.specs.Ordering.{is_lt, is_eq, eq_by_cmp, ordering_reverse}
 use Rattle.std.specs.Cmp.{IsTotalOrder}
@@ -9,7 +9,7 @@ use Rattle.std.specs.declared.cmp.Ordering.{Ordering}
 use Rattle.std.specs.declared.cmp.Ordering.TheVariants.{Less, Equal, Greater}
 use Rattle.std.proofs.lemmas.Bool.{cases_Bool, false≢true}
 use Rattle.std.proofs.lemmas.List.Elements.{All-nil, All-from_recursion, recursion_from_All, All-append, All-weaker, All-contains_itself, Contains-append_left, Contains-append_right, Contains-append_cases}
-use Rattle.std.proofs.lemmas.List.Sorted.{Contains-permutation, IsPermutation-sym, length_permutation}
+use Rattle.std.proofs.lemmas.List.Sorted.{Contains-permutation, IsPermutation-sym}
 use Rattle.std.proofs.lemmas.Map.Keys.{IsDistinct-from_sorted, IsDistinct-head, IsDistinct-tail, IsDistinct-cons, IsDistinct-IsPermutation, apart_from_distinct, sorted_from_all_adjacent}
 use Rattle.cloud_base.specs.Values.{Id}
 use Rattle.cloud_base.specs.Order.{id_order}
@@ -122,7 +122,7 @@ told_cells parts apart schema base delta nums words list ln lt merge =
 
 -- ---- the lists of no change
 
-nothing : {A : Type 0} (R : A → A → Ordering) → IsStrictlySortedBy R []
+pub nothing : {A : Type 0} (R : A → A → Ordering) → IsStrictlySortedBy R []
 unfolding IsStrictlySortedBy
 nothing R = tt
 

@@ -7,13 +7,13 @@ use Rattle.std.proofs.lemmas.Bool.Decides.{same_from_decides}
 use Rattle.std.proofs.lemmas.List.Elements.{Contains-append_right, Contains-append_cases}
 use Rattle.cloud_base.specs.Values.{Id}
 use Rattle.cloud_base.specs.Order.{id_order, same_id}
-use Rattle.cloud_base.specs.Log.{Creation, creation, created, is_created, is_deleted, parents, parents_of}
+use Rattle.cloud_base.specs.Log.{Creation, creation, is_created, is_deleted, parents, parents_of}
 use Rattle.cloud_base.specs.Dead.{Chain, Dead, is_dead}
 use Rattle.cloud_base.specs.Alike.{IsPart}
 use Rattle.cloud_base.specs.Shaped.{CreatedOnce}
 use Rattle.cloud_base.specs.Sorted.{Lists}
 use Rattle.cloud_base.specs.declared.update.Update.{Update}
-use Rattle.cloud_base.specs.declared.update.Update.TheVariants.{Create, Delete}
+use Rattle.cloud_base.specs.declared.update.Update.TheVariants.{Delete}
 use Rattle.cloud_base.proofs.OrderLemmas.{same_id_decides, same_id_itself}
 use Rattle.cloud_base.proofs.SortedLemmas.{here, there, none_in, split_member}
 use Rattle.cloud_base.proofs.LogLemmas.{deleted_parts, creation_parts, creation_stays, deleted_member, member_deleted, created_member, created_contains}

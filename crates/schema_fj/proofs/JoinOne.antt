@@ -1,5 +1,5 @@
 -- The law of a join for one grid, from what `join_cells` ensures.
-use Rattle.std.proofs.Common.{◌≡◌, refl, sym, ◌∙◌, ap, subst, Bool, true, false, cond, ℕ, List, [], ◌∷◌, ◌++◌, inl, inr}
+use Rattle.std.proofs.Common.{◌≡◌, refl, sym, ◌∙◌, ap, subst, Bool, true, false, cond, ℕ, List, [], ◌++◌}
 use Rattle.std.specs.Prelude.{Option, Some, None, not, ◌||◌, ◌&&◌, Contains}
 use Rattle.std.specs.List.{flat_map}
 use Rattle.std.specs.Cmp.{IsTotalOrder}
@@ -18,9 +18,9 @@ use Rattle.cloud_base.specs.declared.update.Update.{Update}
 use Rattle.cloud_base.proofs.LogLemmas.{part_joined}
 use Rattle.cloud_base.proofs.DeadLemmas.{keys_live}
 use Rattle.fj_core.specs.Changes.{ints, texts}
-use Rattle.fj_core.specs.IntCells.{int_effect, IsIntEffect}
+use Rattle.fj_core.specs.IntCells.{IsIntEffect}
 use Rattle.fj_core.specs.IntLaws.{int_effect_is_own}
-use Rattle.fj_core.specs.TextCells.{text_effect, IsTextEffect}
+use Rattle.fj_core.specs.TextCells.{IsTextEffect}
 use Rattle.fj_core.specs.TextLaws.{text_effect_is_own}
 use Rattle.fj_core.specs.declared.effect.Effect.{Effect}
 use Rattle.fj_core.specs.declared.effect.Effect.TheVariants.{Add, SetInt, SetText, IfEmpty}
@@ -30,11 +30,10 @@ use Rattle.fj_array.specs.Cells.{At, of_cell, cell_order}
 use Rattle.fj_array.specs.Effects.{cell_of, effect_order}
 use Rattle.fj_array.specs.Grids.{GridStands}
 use Rattle.fj_entity.specs.declared.fate.Fate.{Fate}
-use Rattle.fj_entity.specs.Fates.{has_gone}
 use Rattle.fj_entity.specs.Rosters.{RosterStands}
 use Rattle.fj_entity.proofs.FateLemmas.{has_gone_means}
 use Rattle.change_lists.specs.Effects.{effect_of as effect_in, IsDone}
-use Rattle.schema_fj.specs.Joined.{joined, is_of, lives, JoinsAll}
+use Rattle.schema_fj.specs.Joined.{is_of, lives, JoinsAll}
 use Rattle.schema_fj.specs.Sets.{type_at}
 use Rattle.schema_fj.specs.States.{changes_in, same_type}
 use Rattle.schema_fj.proofs.CellFacts.{IsLawful, Apart}
@@ -43,7 +42,7 @@ use Rattle.schema_fj.proofs.CellLaws.{of_changes, no_changes}
 use Rattle.schema_fj.proofs.GridJoin.{out, joined_stands}
 use Rattle.schema_fj.proofs.JoinLaws.{Tells, joined_same}
 
-not_true : (b : Bool) → not b ≡ true → b ≡ false
+pub not_true : (b : Bool) → not b ≡ true → b ≡ false
 not_true true e = sym e
 not_true false e = refl
 
@@ -60,6 +59,10 @@ type_same cell.Text cell.Text e = refl
 pub type_itself : (a : CellType) → same_type a a ≡ true
 type_itself cell.Int = refl
 type_itself cell.Text = refl
+
+-- a cell that isn't left out is of the type
+pub typed_as_told : (schema : Schema) (type : CellType) (whole : List Update) (x : Cell) → out schema type whole x ≡ false → cell_type schema x.property ≡ type
+typed_as_told schema type whole x live = type_same (cell_type schema x.property) type (not_false (same_type (cell_type schema x.property) type) (or_parts (not (same_type (cell_type schema x.property) type)) (has_dead whole x.keys) live).0)
 
 -- ---- effects of a type
 
@@ -102,9 +105,6 @@ module _ {C : Type 0} (effect_of : List C → Option Effect) (of : CellChange �
       of_changes parts keys_apart schema type of whole x.property x.keys log
       ∙ ap (λ b. cond b [] (flat_map of (plain_log.of_cell x.property x.keys log))) live
 
-  typed : (whole : List Update) (x : Cell) → out schema type whole x ≡ false → cell_type schema x.property ≡ type
-  typed whole x live = type_same (cell_type schema x.property) type (not_false (same_type (cell_type schema x.property) type) (or_parts (not (same_type (cell_type schema x.property) type)) (has_dead whole x.keys) live).0)
-
   alive : (whole : List Update) (x : Cell) → out schema type whole x ≡ false → has_dead whole x.keys ≡ false
   alive whole x live = (or_parts (not (same_type (cell_type schema x.property) type)) (has_dead whole x.keys) live).1
 
@@ -114,10 +114,10 @@ module _ {C : Type 0} (effect_of : List C → Option Effect) (of : CellChange �
     ascends = lists.ascends;
     only = λ it m live.
         ap effect_of (seen whole after (cell_of it) live) ∙ sym (fits (plain_log.of_cell it.property it.keys after))
-        ∙ ap (λ t. effect_in t (plain_log.of_cell it.property it.keys after)) (sym (typed whole (cell_of it) live)) ∙ (lists.only it m).1;
+        ∙ ap (λ t. effect_in t (plain_log.of_cell it.property it.keys after)) (sym (typed_as_told schema type whole (cell_of it) live)) ∙ (lists.only it m).1;
     every = λ it live e. lists.every it (
       keys_live (before ++ after) whole it.keys (subst (IsPart (before ++ after)) (sym is) (part_joined base delta before after part)) once (alive whole (cell_of it) live),
-      ap (λ t. effect_in t (plain_log.of_cell it.property it.keys after)) (typed whole (cell_of it) live) ∙ fits (plain_log.of_cell it.property it.keys after)
+      ap (λ t. effect_in t (plain_log.of_cell it.property it.keys after)) (typed_as_told schema type whole (cell_of it) live) ∙ fits (plain_log.of_cell it.property it.keys after)
           ∙ sym (ap effect_of (seen whole after (cell_of it) live)) ∙ e,
     );
   }
@@ -131,10 +131,10 @@ module _ {C : Type 0} (effect_of : List C → Option Effect) (of : CellChange �
       at true left =
           let clash : None ≡ Some it.effect = sym empty ∙ sym (ap effect_of (no_changes parts keys_apart schema type of (base ++ delta) it.property it.keys delta left)) ∙ e in cc
       at false live = (
-        typed (base ++ delta) (cell_of it) live,
+        typed_as_told schema type (base ++ delta) (cell_of it) live,
         (
           alive (base ++ delta) (cell_of it) live,
-          ap (λ t. effect_in t (plain_log.of_cell it.property it.keys delta)) (typed (base ++ delta) (cell_of it) live) ∙ fits (plain_log.of_cell it.property it.keys delta)
+          ap (λ t. effect_in t (plain_log.of_cell it.property it.keys delta)) (typed_as_told schema type (base ++ delta) (cell_of it) live) ∙ fits (plain_log.of_cell it.property it.keys delta)
               ∙ sym (ap effect_of (seen (base ++ delta) delta (cell_of it) live)) ∙ e,
         ),
       )

@@ -4,8 +4,10 @@ pub mod Changes
 pub mod Effects
 pub mod FateLaws
 pub mod GridJoin
+pub mod Images
 pub mod JoinLaws
 pub mod JoinOne
+pub mod Restored
 pub mod SetLemmas
 pub mod StateJoin
 pub mod StateLaws

@@ -1,14 +1,13 @@
 -- What a state stands for after a join.
 use Rattle.std.proofs.Common.{◌≡◌, refl, sym, ◌∙◌, ap, subst, Bool, true, false, List, [], ◌∷◌, ◌++◌, inl, inr, Option, Some, None}
-use Rattle.std.specs.Prelude.{Contains, All, filter_map, not, ◌||◌, is_some}
+use Rattle.std.specs.Prelude.{Contains, filter_map, not, ◌||◌, is_some}
 use Rattle.std.specs.Option.{option_or}
 use Rattle.std.specs.List.{cons_option, AllByRecursion}
 use Rattle.std.specs.List.Sorted.{IsStrictlySortedBy}
 use Rattle.std.specs.Ordering.{is_eq}
 use Rattle.std.specs.declared.cmp.Ordering.TheVariants.{Less}
-use Rattle.std.proofs.lemmas.Bool.{false≢true}
 use Rattle.std.proofs.lemmas.List.{append_assoc, append-nil}
-use Rattle.std.proofs.lemmas.List.Elements.{All-contains, All-from_recursion, All-weaker, All-contains_itself}
+use Rattle.std.proofs.lemmas.List.Elements.{All-contains, All-from_recursion}
 use Rattle.std.proofs.lemmas.Map.Keys.{sorted_head, sorted_tail}
 use Rattle.cloud_base.specs.Values.{Id}
 use Rattle.cloud_base.specs.Order.{id_order}
@@ -29,23 +28,21 @@ use Rattle.cloud_base.proofs.LogLemmas.{creation_parts, created_member, created_
 use Rattle.cloud_base.proofs.DeadLemmas.{has_dead_same, created_then}
 use Rattle.fj_core.specs.declared.effect.Effect.{Effect}
 use Rattle.fj_core.specs.Changes.{ints, texts}
-use Rattle.fj_core.specs.IntCells.{int_plain, int_effect, IntStands}
-use Rattle.fj_core.specs.TextCells.{text_plain, text_effect, TextStands}
-use Rattle.fj_core.specs.declared.int_cell.IntCell.{IntCell}
-use Rattle.fj_core.specs.declared.text_cell.TextCell.{TextCell}
+use Rattle.fj_core.specs.IntCells.{int_effect}
+use Rattle.fj_core.specs.TextCells.{text_effect}
 use Rattle.fj_array.specs.declared.cell.Cell.{Cell}
 use Rattle.fj_array.specs.declared.effect.CellEffect.{CellEffect}
 use Rattle.fj_array.specs.Cells.{of_cell}
-use Rattle.fj_array.specs.Effects.{cell_of, effect_order}
+use Rattle.fj_array.specs.Effects.{effect_order}
 use Rattle.fj_array.specs.Grids.{GridStands}
 use Rattle.fj_entity.specs.declared.created.Created.{Created}
 use Rattle.fj_entity.specs.declared.fate.Fate.{Fate}
 use Rattle.fj_entity.specs.declared.fate.Fate.TheVariants.{Living, Dead}
 use Rattle.fj_entity.specs.Fates.{fate_at, created_at, found}
-use Rattle.fj_entity.specs.Rosters.{RosterStands, IsLiving, IsNewlyDead, created_order}
+use Rattle.fj_entity.specs.Rosters.{RosterStands, IsLiving, created_order}
 use Rattle.fj_entity.proofs.WalkLemmas.{living_made, made_living}
 use Rattle.schema_fj.specs.Held.{Held}
-use Rattle.schema_fj.specs.Joined.{JoinsCells, IsMerge, is_of}
+use Rattle.schema_fj.specs.Joined.{JoinsCells, is_of}
 use Rattle.change_lists.specs.Lists.{ChangeLists}
 use Rattle.change_lists.specs.Effects.{IsBorn, IsDone, IsEffect}
 use Rattle.schema_fj.specs.States.{same_type, changes_in, StateHolds}
@@ -249,11 +246,11 @@ joined_holds schema s new base delta before after orders change part fit told h 
 
 -- ---- the loops
 
-creates-push : (list : List Created) (c : Created) → creates (list ++ c ∷ []) ≡ creates list ++ Create c.id c.entity c.keys ∷ []
+pub creates-push : (list : List Created) (c : Created) → creates (list ++ c ∷ []) ≡ creates list ++ Create c.id c.entity c.keys ∷ []
 creates-push [] c = refl
 creates-push (d ∷ list) c = ap (λ l. Create d.id d.entity d.keys ∷ l) (creates-push list c)
 
-deletes-push : (ids : List Id) (id : Id) → deletes (ids ++ id ∷ []) ≡ deletes ids ++ Delete id ∷ []
+pub deletes-push : (ids : List Id) (id : Id) → deletes (ids ++ id ∷ []) ≡ deletes ids ++ Delete id ∷ []
 deletes-push [] id = refl
 deletes-push (x ∷ ids) id = ap (λ l. Delete x ∷ l) (deletes-push ids id)
 

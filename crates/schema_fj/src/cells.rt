@@ -9,12 +9,13 @@ ghost use Rattle.fj_array.specs.Cells.{At};
 ghost use Rattle.fj_array.specs.Effects.{effect_order};
 ghost use Rattle.fj_array.specs.Grids.{GridStands};
 ghost use Rattle.fj_array.specs.declared.cell.Cell.{Cell};
-ghost use Rattle.change_lists.specs.Lists.{IsChangeLists};
+ghost use Rattle.change_lists.specs.Lists.{IsChangeLists, IsImageLists};
 ghost use Rattle.schema_fj.specs.Joined.{JoinsAll, IsMerge, is_of};
+ghost use Rattle.schema_fj.specs.Placed.{PutsOne, number_in, text_in};
 ghost use Rattle.schema_fj.specs.Purged.{Purges};
 
-use change_lists::{Change, total_list_orders};
-use cloud_base::{CellChange, IdList, Keys, Memory, Sequence, Uid};
+use change_lists::{CellValue, Change, Content, Image, ValueList, total_list_orders};
+use cloud_base::{CellChange, IdList, Keys, Memory, Sequence, Text, Uid};
 use fj_array::{CellEffect, EffectList, Grid, cell_orders};
 use fj_core::{Effect, ForkJoin, IntChange, TextChange};
 use fj_entity::CreatedList;
@@ -138,6 +139,58 @@ pub(crate) fn change_of(
         Change::new(created, dead, cells)
     } else {
         Change::new(
+            Sequence::new(alloc),
+            Sequence::new(alloc),
+            Sequence::new(alloc),
+        )
+    }
+}
+
+/// The number that is held, where it is one.
+pub(crate) fn number_in(value: &Content) -> Option<i64>
+    ensures { result ≡ number_in value.now }
+{
+    match value {
+        Content::Int(number) => Some(*number),
+        Content::Text(_) => None,
+    }
+}
+
+/// The text that is held, where it is one.
+pub(crate) fn text_in(value: &Content) -> Option<Text>
+    ensures { result ≡ text_in value.now }
+{
+    match value {
+        Content::Int(_) => None,
+        Content::Text(text) => Some(text.copied()),
+    }
+}
+
+/// Gives a cell its value, where that is one of the grid's type.
+pub(crate) fn put_one<C: ForkJoin>(
+    grid: &mut Grid<C>,
+    it: &CellValue,
+    value: Option<C::Value>,
+) -> Result<(), Memory>
+    ensures { OnOk result (PutsOne C.plain C.effect_of C.stands value it.now
+        grid.old grid.new) }
+{
+    cell_orders();
+    match value {
+        Some(value) => grid.put(it.property, &it.keys, value),
+        None => Ok(()),
+    }
+}
+
+/// The image of these lists, where they are those of an image, and else of nothing.
+pub(crate) fn image_of(alloc: Global, created: CreatedList, dead: IdList, cells: ValueList) -> Image
+    ensures { IsImageLists (record { created = created; dead = dead; cells = cells }) →
+        result ≡ record { created = created; dead = dead; cells = cells } }
+{
+    if Image::are_ordered(created.as_slice(), dead.as_slice(), cells.as_slice()) {
+        Image::new(created, dead, cells)
+    } else {
+        Image::new(
             Sequence::new(alloc),
             Sequence::new(alloc),
             Sequence::new(alloc),

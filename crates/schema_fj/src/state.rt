@@ -1,7 +1,8 @@
 // The data of a replica.
 ghost use Rattle.std.specs.Prelude.{◌≡◌, List, [], ◌∷◌, ◌++◌, None, true, false, not, filter};
-ghost use Rattle.std.specs.Prelude.{filter_map, map, IfOk, OnOk, OnErr};
+ghost use Rattle.std.specs.Prelude.{filter_map, map, IfOk, OnOk, OnErr, length, min, ◌^◌};
 ghost use Rattle.cloud_base.specs.Values.{Id};
+ghost use Rattle.cloud_base.specs.Sorted.{Lists};
 ghost use Rattle.cloud_base.specs.Alike.{IsPart};
 ghost use Rattle.cloud_base.specs.Answer.{answer, entries};
 ghost use Rattle.cloud_base.specs.Dead.{is_alive, is_dead, has_dead};
@@ -17,18 +18,23 @@ ghost use Rattle.fj_core.specs.IntCells.{int_plain, int_effect, IntStands};
 ghost use Rattle.fj_core.specs.TextCells.{text_plain, text_effect, TextStands};
 ghost use Rattle.fj_entity.specs.Fates.{fate_at, found, is_gone};
 ghost use Rattle.change_lists.specs.Effects.{IsEffect};
+ghost use Rattle.change_lists.specs.Images.{IsHeld, IsImage, answer_of};
+ghost use Rattle.change_lists.specs.Lists.{value_order};
 ghost use Rattle.schema_fj.specs.Joined.{JoinsCells};
+ghost use Rattle.schema_fj.specs.Placed.{PutsCells};
 ghost use Rattle.schema_fj.specs.Purged.{Purges};
 ghost use Rattle.schema_fj.specs.Sets.{type_at};
 ghost use Rattle.schema_fj.specs.States.{StateHolds, StateStands};
 ghost use Rattle.schema_fj.specs.Told.{AreNew, creates, deletes};
+ghost use Rattle.schema_fj.specs.Valued.{value_in};
 
 use crate::cells::{
-    change_cell, change_of, is_number, is_text, join_one, merged, number_change, purge_all,
-    text_change,
+    change_cell, change_of, image_of, is_number, is_text, join_one, merged, number_change,
+    number_in, purge_all, put_one, text_change, text_in,
 };
+use crate::fates::roster_of;
 use crate::ids::{add, copy_set, keep_living, take_back, with_all};
-use change_lists::{Change, one_effect};
+use change_lists::{CellValue, Change, Content, Image, ValueList, one_effect, one_image};
 use cloud_base::{
     Answer, CellChange, CellType, Keys, Memory, Query, Schema, Sequence, Text, TupleList, Uid,
     Update,
@@ -39,6 +45,9 @@ use fj_entity::{Created, Roster};
 use std::alloc::{AllocError, Global};
 use std::collections::BTreeSet;
 use std::marker::Model;
+
+/// The most properties that the numbers in updates tell apart.
+const MOST_PROPERTIES: usize = 1 << 16;
 
 /// The data of a replica: the cells of all properties, the ids that live and the dead ones.
 ///
@@ -429,5 +438,104 @@ impl State {
     {
         let change = child.effect()?;
         self.join_change(&change)
+    }
+
+    // The number of its properties, as far as updates can name them.
+    fn property_count(&self) -> usize
+        ensures { result ≡ min (length self.now.types) (2 ^ 16) }
+    {
+        self.types.len().min(MOST_PROPERTIES)
+    }
+
+    fn content_at(&self, property: u16, keys: &Keys) -> Content
+        ensures { (schema : Schema) (base delta : List Update) →
+            StateStands schema self.now base delta →
+            answer_of result ≡ answer schema (base ++ delta) (Query.Get property keys.now) }
+    {
+        match self.type_of(property) {
+            CellType::Int => Content::Int(self.get_int(property, keys)),
+            CellType::Text => Content::Text(self.get_text(property, keys)),
+        }
+    }
+
+    // Lists what some cells of a property hold.
+    fn list_values(
+        &self,
+        property: u16,
+        entries: &[Keys],
+        list: &mut ValueList,
+    ) -> Result<(), Memory>
+        ensures { OnOk result ((schema : Schema) (base delta : List Update) →
+            StateStands schema self.now base delta → list.new ≡
+            list.old ++ map (value_in schema (base ++ delta) property) entries.now) }
+    {
+        for keys in entries {
+            let value = self.content_at(property, keys);
+            list.push(CellValue {
+                property,
+                keys: keys.copied(),
+                value,
+            })?;
+        }
+        Ok(())
+    }
+
+    // What the cells hold that isn't their default, by property and then keys.
+    fn values(&self) -> Result<ValueList, Memory>
+        ensures { IfOk result (λ list. (schema : Schema) (base delta : List Update) →
+            StateStands schema self.now base delta →
+            Lists value_order list (IsHeld schema (base ++ delta))) }
+    {
+        cell_orders();
+        let mut list = Sequence::new(self.alloc);
+        for number in 0..self.property_count() {
+            let property = number as u16;
+            let entries = self.entries(property)?;
+            self.list_values(property, entries.as_slice(), &mut list)?;
+        }
+        Ok(list)
+    }
+
+    /// What the log comes to that it stands for.
+    pub fn image(&self) -> Result<Image, Memory>
+        ensures { IfOk result (λ image. (schema : Schema) (base delta : List Update) →
+            StateStands schema self.now base delta → IsImage schema (base ++ delta) image) }
+    {
+        one_image();
+        let created = self.roster.created()?;
+        let dead = self.roster.gone()?;
+        let cells = self.values()?;
+        Ok(image_of(self.alloc, created, dead, cells))
+    }
+
+    fn put_value(&mut self, it: &CellValue) -> Result<(), Memory>
+        ensures { OnOk result (PutsCells (it.now ∷ []) self.old self.new) }
+    {
+        match self.type_of(it.property) {
+            CellType::Int => put_one(&mut self.numbers, it, number_in(&it.value)),
+            CellType::Text => put_one(&mut self.texts, it, text_in(&it.value)),
+        }
+    }
+
+    fn put_values(&mut self, items: &[CellValue]) -> Result<(), Memory>
+        ensures { OnOk result (PutsCells items.now self.old self.new) }
+    {
+        for it in items {
+            self.put_value(it)?;
+        }
+        Ok(())
+    }
+
+    /// The state of a log that comes to this image, untouched since. Nothing is known of it where
+    /// the image is one of no log over the schema.
+    pub fn of_image(alloc: Global, schema: &Schema, image: &Image) -> Result<State, Memory>
+        ensures { IfOk result (λ state. (log : List Update) → Fit schema.now log →
+            IsImage schema.now log image.now → StateStands schema.now state log []) }
+    {
+        cell_orders();
+        let mut state = State::fresh(alloc, schema)?;
+        state.roster = roster_of(alloc, image.created(), image.dead())?;
+        state.put_values(image.cells())?;
+        Ok(state)
     }
 }

@@ -1,4 +1,4 @@
-use Rattle.std.proofs.Common.{◌≡◌, ◌∙◌, sym, subst, List, ◌++◌}
+use Rattle.std.proofs.Common.{◌∙◌, sym, subst, List, ◌++◌}
 use Rattle.cloud_base.specs.Values.{Id}
 use Rattle.cloud_base.specs.Order.{id_order}
 use Rattle.cloud_base.specs.Sorted.{Lists}

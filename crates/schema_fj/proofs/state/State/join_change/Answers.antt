@@ -1,4 +1,4 @@
-use Rattle.std.proofs.Common.{◌≡◌, sym, subst, List, ◌++◌}
+use Rattle.std.proofs.Common.{sym, subst, List, ◌++◌}
 use Rattle.std.proofs.lemmas.List.{append_assoc}
 use Rattle.cloud_base.specs.Values.{Id}
 use Rattle.cloud_base.specs.Shaped.{CreatedOnce}
