@@ -20,7 +20,7 @@ use Rattle.revision_diagram.specs.Once.{joins_apart, StandsOnce, Once, AllStandO
 use Rattle.revision_diagram.specs.Story.{is_act_of, is_told, story, event_of, events, is_in_line, has_seen, LineLaw}
 use Rattle.revision_diagram.specs.Meeting.{below_server, is_client, is_at_or_above, is_mark, is_mark_at, has_marked, is_placed, Placed, is_at_mark, AtMarks, is_flush, flushes}
 use Rattle.revision_diagram.specs.Headline.{is_for_node, AllOwned}
-use Rattle.one_client.proofs.Laws.{Laws}
+use Rattle.one_client.proofs.StepLaws.{Laws}
 use Rattle.one_client.proofs.Shape.{put-here, put-else, Sees, Standing, Received, Fresh, Acted, acted_Do, acted_Ask, acted_Say, acted_Mark, standing_acted, received_acted, base_path, Pulled, pulled, Forked, forked, pushed, Served, served}
 
 -- the laws hold of the steps, in which the client told these events

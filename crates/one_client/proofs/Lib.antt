@@ -1,6 +1,10 @@
-pub mod Told
-pub mod Laws
+mod Examples
+pub mod Alone
+pub mod Flushes
+pub mod StepLaws
 pub mod Shape
 pub mod EachStep
 pub mod Runs
 pub mod Legible
+pub mod Marks
+pub mod Playing

@@ -8,24 +8,15 @@ use Rattle.cloud_base.specs.declared.update.Update.{Update}
 use Rattle.cloud_base.specs.declared.update.Answer.{Answer}
 use Rattle.cloud_base.specs.declared.update.Event.{Event}
 use Rattle.cloud_base.specs.declared.update.Event.TheVariants.{Do as DoEvent, Ask as AskEvent, Say as SayEvent, Yield as YieldEvent, Flush as FlushEvent}
-use Rattle.first_form.specs.declared.form.FirstAct.{FirstAct}
-use Rattle.first_form.specs.declared.form.FirstAct.TheVariants.{Change, Print, Yield}
-use Rattle.first_form.specs.FirstForm.{first_form}
-use Rattle.first_form.proofs.Opened.{IsFirst, opened, globals_are_ints}
-use Rattle.typed_program.specs.Trace.{budget, trace}
-use Rattle.typed_program.specs.declared.program.Parts.{Parts}
-use Rattle.typed_program.specs.declared.statement.Statement.{Statement}
 use Rattle.revision_diagram.specs.declared.step.Step.{Step}
 use Rattle.revision_diagram.specs.declared.step.Step.TheVariants.{Fork, Join, Do, Ask, Say, Mark}
 use Rattle.revision_diagram.specs.Diagram.{diagram}
 use Rattle.revision_diagram.specs.Story.{ProgramLaw}
 use Rattle.revision_diagram.specs.Meeting.{below_server}
 use Rattle.revision_diagram.specs.Headline.{Headline}
-use Rattle.one_client.specs.Program.{update_of, begun, traces, traces_from, end_of, events_from, events_of}
 use Rattle.one_client.specs.Steps.{Run, first_run, goes_on, yield_steps, after_yield, steps_from, steps_of, RightEvents, HasNoFlush}
-use Rattle.one_client.proofs.Laws.{Laws}
+use Rattle.one_client.proofs.StepLaws.{Laws}
 use Rattle.one_client.proofs.Shape.{Standing}
-use Rattle.one_client.proofs.Told.{told_is_trace}
 use Rattle.one_client.proofs.EachStep.{Good, Now, Onward, MarkedNow, onward_Do, onward_Ask, onward_Say, onward_Mark, marked, pull_step, fork_step, push_step, serve_step}
 
 -- some steps after others, one at a time
@@ -147,27 +138,3 @@ headline laws schema events trace end no_flush right tells =
       line = good.line;
       owners = good.owners;
     }
-
--- ---- the events of a program
-pub events_right : (schema : Schema) (log : List Update) (acts : List FirstAct) → RightEvents schema log (events_from schema log acts)
-events_right schema log [] = tt
-events_right schema log (Change global operation n ∷ acts) = events_right schema (log ++ update_of global operation n ∷ []) acts
-events_right schema log (Print global ∷ acts) = (refl, events_right schema log acts)
-events_right schema log (Yield ∷ acts) = events_right schema log acts
-
-pub events_no_flush : (schema : Schema) (log : List Update) (acts : List FirstAct) → HasNoFlush (events_from schema log acts)
-events_no_flush schema log [] = tt
-events_no_flush schema log (Change global operation n ∷ acts) = events_no_flush schema (log ++ update_of global operation n ∷ []) acts
-events_no_flush schema log (Print global ∷ acts) = events_no_flush schema log acts
-events_no_flush schema log (Yield ∷ acts) = events_no_flush schema log acts
-
--- ---- programs
--- what holds of all events holds of a program's
-pub program_headline : ((schema : Schema) (events : List Event) (trace : List Answer → List Event × Outcome) (end : End) → HasNoFlush events → RightEvents schema [] events → trace (answers_in events) ≡ (events, ended end) → Headline schema below_server (trace ∷ []) (end ∷ []) (steps_of events))
-    → (p : Parts) (acts : List FirstAct) → first_form p ≡ Some acts → Headline p.schema below_server (traces p) (end_of acts ∷ []) (steps_of (events_of p.schema acts))
-program_headline law p acts h =
-    let first : IsFirst p acts = opened p acts h in
-    let told : trace 0 first.body (answers_in (events_of p.schema acts)) ≡ (events_of p.schema acts, ended (end_of acts)) = told_is_trace p.schema (globals_are_ints p.schema first.schema) 0 first.body acts first.reads in
-    let alone : Headline p.schema below_server (trace 0 first.body ∷ []) (end_of acts ∷ []) (steps_of (events_of p.schema acts)) =
-    law p.schema (events_of p.schema acts) (trace 0 first.body) (end_of acts) (events_no_flush p.schema [] (begun budget acts)) (events_right p.schema [] (begun budget acts)) told in
-    subst (λ (bodies : List (List Statement)). Headline p.schema below_server (traces_from 0 bodies) (end_of acts ∷ []) (steps_of (events_of p.schema acts))) (sym first.one) alone

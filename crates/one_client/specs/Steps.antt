@@ -1,5 +1,5 @@
 -- The steps of a run of one client, event by event. Its yields are answered at once.
-use Rattle.std.specs.Prelude.{◌≡◌, refl, ℕ, ◌+◌, Bool, true, false, if◌then◌else◌, List, [], ◌∷◌, ◌++◌, Option, Some, None, unwrap_or, codes, pos, ⊤}
+use Rattle.std.specs.Prelude.{◌≡◌, refl, ℕ, suc, ◌+◌, Bool, true, false, if◌then◌else◌, List, [], ◌∷◌, ◌++◌, Option, Some, None, unwrap_or, codes, pos, ⊤}
 use Rattle.std.specs.List.{list_any}
 use Rattle.std.specs.Int.{int_wrap}
 use Rattle.std.proofs.Common.{ap}
@@ -38,6 +38,11 @@ is_yield (event.Do update) = false
 is_yield (event.Ask query answer) = false
 is_yield (event.Say answer) = false
 is_yield event.Flush = false
+
+-- how many of the events are yields
+abbrev pub yields_in : List Event → ℕ
+yields_in [] = 0
+yields_in (event ∷ events) = if is_yield event then suc (yields_in events) else yields_in events
 
 -- a further yield comes
 abbrev pub goes_on : List Event → Bool
@@ -114,6 +119,9 @@ module _ where
   pub example_steps : steps_of told ≡ Fork 0 0 ∷ Do 1 add_two ∷ Ask 1 get (Int (pos 2)) ∷ Say 1 (Int (pos 2)) ∷ Mark 1 false ∷ Fork 1 0 ∷ Join 0 1 ∷ Fork 0 0
       ∷ Ask 2 get (Int (pos 2)) ∷ Say 2 (Int (pos 2)) ∷ Mark 2 false ∷ Join 3 2 ∷ Fork 3 0 ∷ Join 0 3 ∷ Ask 4 get (Int (pos 2)) ∷ Say 4 (Int (pos 2)) ∷ []
   example_steps = refl
+
+  pub example_yields : yields_in told ≡ 2
+  example_yields = refl
 
   pub example_right : RightEvents counter [] told
   unfolding answer is_dead plain_value plain_int int_wrap

@@ -1,6 +1,6 @@
 -- The headline, from the laws of one step.
 use Rattle.one_client.proofs.Runs.{headline}
-use Rattle.one_client.proofs.events_are_lawful.Goals as goal
+use Rattle.one_client.proofs.laws.events_are_lawful.Goals as goal
 
 pub returns : goal.returns
 returns c = headline record {

@@ -1,5 +1,0 @@
-mod Bodies
-pub mod Opened
-pub mod Read
-mod Turns
-pub mod Within
