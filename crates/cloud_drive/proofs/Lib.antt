@@ -1,3 +1,4 @@
-pub mod Begun
-pub mod Follow
-pub mod Played
+mod Following
+mod Growing
+mod Printing
+mod Walking

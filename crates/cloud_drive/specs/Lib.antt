@@ -1,1 +1,2 @@
-pub mod Play
+pub mod Runners
+pub mod Walks

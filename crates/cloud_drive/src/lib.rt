@@ -1,8 +1,13 @@
 // Playing a program of one client.
 #![tactic(auto)]
 
-mod act;
-mod play_tree;
-mod player;
+mod report;
+mod runner;
+mod walk;
 
-pub use play_tree::{BUDGET, play, steps};
+pub use report::play;
+pub use runner::{Played, run};
+pub use walk::steps;
+
+#[cfg(test)]
+mod tests;
