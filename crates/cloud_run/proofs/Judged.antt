@@ -1,6 +1,7 @@
 -- Laws of what each status says of a source.
 use Rattle.std.proofs.Common.{◌≡◌, ◌≢◌, ℕ, ◌<◌, ◌≤◌, List, [], ◌++◌, length, refl, sym, ap, ◌∙◌, append-nil, length-append, subst, arith, inl, inr}
-use Rattle.std.specs.Prelude.{Option, Some, None, Result, Ok, Err, ◌⊎◌, IsTrue}
+use Rattle.std.specs.Prelude.{true, false, Option, Some, None, Result, Ok, Err, ◌⊎◌, IsTrue}
+use Rattle.std.proofs.lemmas.Bool.{true≢false}
 use Rattle.std.specs.List.{AllByRecursion}
 use Rattle.cloud_base.specs.Causes.{Rose}
 use Rattle.source_tokens.specs.Scans.{scan, tokens_of, IsToken}
@@ -12,7 +13,7 @@ use Rattle.cloud_parse.specs.declared.fault.Which.{Which}
 use Rattle.cloud_parse.specs.declared.fault.Which.TheVariants as which
 use Rattle.cloud_parse.specs.declared.parsed.Parsed.{Parsed}
 use Rattle.cloud_run.specs.declared.command.Command.{Command}
-use Rattle.cloud_run.specs.declared.command.Command.TheVariants.{Check, Play}
+use Rattle.cloud_run.specs.declared.command.Command.TheVariants.{Check, Code, Play}
 use Rattle.cloud_run.specs.declared.status.Status.{Status}
 use Rattle.cloud_run.specs.declared.status.Status.TheVariants as status
 use Rattle.cloud_run.specs.Commands.{reads_source}
@@ -22,7 +23,7 @@ use Rattle.kind_bodies.specs.declared.fault.KindFault.TheVariants as kind
 use Rattle.kind_rules.specs.Answers.{first_fault}
 use Rattle.kind_rules.specs.Programs.{items_of}
 use Rattle.kind_check.specs.KindAnswers.{KindAnswers}
-use Rattle.cloud_run.specs.Top.{KeepsKinds, text_of, Accepts, Judges, JudgesLeft, EndSeen, LeftParsed, Writes, Accepted}
+use Rattle.cloud_run.specs.Top.{KeepsKinds, takes, Accepts, Judges, JudgesLeft, EndSeen, LeftParsed, Writes, Accepted}
 
 -- the law of parsing: two answers of a text other than want of memory are one
 abbrev pub OneAnswer : Type 0
@@ -35,6 +36,7 @@ TokensFit = (text : List ℕ) → AllByRecursion IsToken (tokens_of (scan text).
 -- each command reads a source so far
 pub reads : (command : Command) → IsTrue (reads_source command)
 reads Check = refl
+reads Code = refl
 reads Play = refl
 
 -- where nothing is left, what was taken is the whole text
@@ -52,12 +54,12 @@ left_parsed fit (Some bytes) None taken parsed p e said = absurd p
 left_parsed fit (Some bytes) (Some rest) taken parsed p e said = subst (λ text. ParseAnswers text (Ok parsed)) (whole bytes taken rest p e) said
 
 -- what is parsed and taken by a command is accepted
-pub left_done : (command : Command) (left : Option (List ℕ)) (parsed : Parsed) (text : List ℕ) → LeftParsed left parsed → KeepsKinds parsed → text_of command parsed ≡ Some text → JudgesLeft (Some command) status.Done left
-left_done command None parsed text said keeps makes = tt
-left_done command (Some bytes) parsed text said keeps makes = (parsed, said, keeps, λ none. cc)
+pub left_done : (command : Command) (left : Option (List ℕ)) (parsed : Parsed) → LeftParsed left parsed → KeepsKinds parsed → takes command parsed ≡ true → JudgesLeft (Some command) status.Done left
+left_done command None parsed said keeps taken = tt
+left_done command (Some bytes) parsed said keeps taken = (parsed, said, keeps, taken)
 
--- what is parsed and not taken by a command isn't in the first form
-pub left_form : (command : Command) (left : Option (List ℕ)) (parsed : Parsed) → LeftParsed left parsed → KeepsKinds parsed → text_of command parsed ≡ None → JudgesLeft (Some command) (status.Limit which.Form) left
+-- what is parsed and not taken by a command isn't in its form
+pub left_form : (command : Command) (left : Option (List ℕ)) (parsed : Parsed) → LeftParsed left parsed → KeepsKinds parsed → takes command parsed ≡ false → JudgesLeft (Some command) (status.Limit which.Form) left
 left_form command None parsed said keeps none = tt
 left_form command (Some bytes) parsed said keeps none = (parsed, said, keeps, none)
 
@@ -90,9 +92,9 @@ limit_judged command which.Clients text said = said
 limit_judged command which.Steps text said = said
 limit_judged command which.Form text said = absurd said
 
--- and the other way round, but for the first form
+-- and the other way round, but for the form
 judged_limit : (command : Command) (w : Which) (text : List ℕ) → Judges command (status.Limit w) text
-    → ParseAnswers text (Err (fault.Limit w)) ⊎ ((parsed : Parsed) × ParseAnswers text (Ok parsed) × KeepsKinds parsed × (text_of command parsed ≡ None))
+    → ParseAnswers text (Err (fault.Limit w)) ⊎ ((parsed : Parsed) × ParseAnswers text (Ok parsed) × KeepsKinds parsed × (takes command parsed ≡ false))
 judged_limit command which.Bytes text said = inl said
 judged_limit command which.Brackets text said = inl said
 judged_limit command which.Number text said = inl said
@@ -178,16 +180,16 @@ abbrev refuses : ParseFault → Result Parsed ParseFault
 refuses f = Err f
 
 -- what a command doesn't take it doesn't accept
-not_taken : OneAnswer → (command : Command) (text : List ℕ) → Accepts command text → ((parsed : Parsed) × ParseAnswers text (Ok parsed) × KeepsKinds parsed × (text_of command parsed ≡ None)) → ⊥
-not_taken one command text (parsed, said, keeps, takes) (other, told, kept, none) =
+not_taken : OneAnswer → (command : Command) (text : List ℕ) → Accepts command text → ((parsed : Parsed) × ParseAnswers text (Ok parsed) × KeepsKinds parsed × (takes command parsed ≡ false)) → ⊥
+not_taken one command text (parsed, said, keeps, taken) (other, told, kept, none) =
     let same : answers other ≡ answers parsed = one text (answers other) (answers parsed) told said (λ e. cc) (λ e. cc) in
     let is : other ≡ parsed = cc same in
-    takes (subst (λ (p : Parsed). text_of command p ≡ None) is none)
+    true≢false (sym taken ∙ subst (λ (p : Parsed). takes command p ≡ false) is none)
 
 -- a source that breaks a rule of kinds isn't accepted
 pub kind_refused : OneAnswer → (command : Command) (rule line : ℕ) (left : Option (List ℕ)) → JudgesLeft (Some command) (status.Kind rule line) left → Accepted (Some command) left → ⊥
 kind_refused one command rule line None j a = a
-kind_refused one command rule line (Some text) (other, told, breaks) (parsed, said, keeps, takes) =
+kind_refused one command rule line (Some text) (other, told, breaks) (parsed, said, keeps, taken) =
     let same : answers other ≡ answers parsed = one text (answers other) (answers parsed) told said (λ e. cc) (λ e. cc) in
     let is : other ≡ parsed = cc same in
     let none : None ≡ Some (record { rule = rule; line = line }) = sym keeps ∙ subst (λ (p : Parsed). first_fault (items_of p.tree p.lines) ≡ Some (record { rule = rule; line = line })) is breaks in
@@ -195,7 +197,7 @@ kind_refused one command rule line (Some text) (other, told, breaks) (parsed, sa
 
 -- what breaks a limit, or has no program, isn't accepted
 not_told : OneAnswer → (command : Command) (text : List ℕ) (f : ParseFault) → Accepts command text → ParseAnswers text (Err f) → f ≢ fault.Memory → ⊥
-not_told one command text f (parsed, said, keeps, takes) told differs =
+not_told one command text f (parsed, said, keeps, taken) told differs =
     let same : answers parsed ≡ refuses f = one text (answers parsed) (refuses f) said told (λ e. cc) (λ e. differs cc) in
     cc same
 
@@ -205,7 +207,7 @@ limit_refused one command w text j a = elim (judged_limit command w text j) [
   | inr told ↦ not_taken one command text a told
 ]
 
--- a text in no first form isn't accepted
+-- a text that the command doesn't take isn't accepted
 pub form_refused : OneAnswer → (command : Command) (left : Option (List ℕ)) → JudgesLeft (Some command) (status.Limit which.Form) left → Accepted (Some command) left → ⊥
 form_refused one command None j a = a
 form_refused one command (Some text) j a = not_taken one command text a j

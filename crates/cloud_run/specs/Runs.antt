@@ -66,8 +66,8 @@ pub record Runs {S K : Type 0} (left : S → Option (List ℕ)) (faults ends : S
   pub written : Writes command status (left source) (left source') (holds sink) (holds sink')
   -- with every status but these two the sink wasn't touched
   pub silent : status ≢ Done → status ≢ WriteFault → sink' ≡ sink
-  -- what `check` wrote with success is parsed to the source's program again, where it isn't too long; what `play` wrote is
-  -- the report of a lawful diagram of that program
+  -- what `check` wrote with success is parsed to the source's program again, where it isn't too long; what `code` wrote
+  -- lists the codes of that program's clients, and what `play` wrote is the report of a lawful diagram of it
   pub lawful : status ≡ Done → WritesLawful command (left source) (holds sink) (holds sink')
   -- where the command accepts the source and no count of faults rose, success comes, or want of memory
   pub complete : Accepted command (left source) → ¬ Rose (faults source) (faults source')

@@ -1,5 +1,5 @@
 -- What a command reads and writes, by its status.
-use Rattle.std.specs.Prelude.{◌≡◌, ◌≢◌, refl, ℕ, ◌≤◌, ⊤, List, [], ◌∷◌, length, Option, Some, None, option_map, if◌then◌else◌, Ok, Err, codes}
+use Rattle.std.specs.Prelude.{◌≡◌, refl, ℕ, ◌≤◌, ⊤, Bool, true, false, ◌&&◌, is_none, List, [], ◌∷◌, length, Option, Some, None, Ok, Err, codes, slice_get}
 use Rattle.std.proofs.Common.{lit≤, not-suc-le-zero}
 use Rattle.cloud_base.specs.Causes.{Rose}
 use Rattle.cloud_base.specs.declared.end.End.{End}
@@ -22,16 +22,19 @@ use Rattle.kind_bodies.specs.declared.fault.KindFault.TheVariants as kind
 use Rattle.kind_rules.specs.Answers.{first_fault}
 use Rattle.kind_rules.specs.Programs.{items_of, typed}
 use Rattle.kind_check.specs.KindAnswers.{KindAnswers}
-use Rattle.first_form.specs.Bare.{is_bare}
-use Rattle.first_form.specs.FirstForm.{first_form}
+use Rattle.typed_program.specs.declared.statement.Statement.{Statement}
+use Rattle.code_gen.specs.Compile.{code_of}
+use Rattle.code_gen.specs.Listings.{listing_of}
+use Rattle.code_gen.specs.Meaning.{Means}
 use Rattle.revision_diagram.specs.declared.step.Step.{Step}
 use Rattle.step_text.specs.Legible.{Told}
 use Rattle.step_text.specs.Text.{report_text}
 use Rattle.revision_diagram.specs.Headline.{Headline}
 use Rattle.revision_diagram.specs.Meeting.{below_server}
-use Rattle.one_client.specs.Program.{traces, report_of}
+use Rattle.one_client.specs.Form.{is_playable}
+use Rattle.one_client.specs.Program.{traces, Reports}
 use Rattle.cloud_run.specs.declared.command.Command.{Command}
-use Rattle.cloud_run.specs.declared.command.Command.TheVariants.{Check, Play}
+use Rattle.cloud_run.specs.declared.command.Command.TheVariants.{Check, Code, Play}
 use Rattle.cloud_run.specs.declared.status.Status.{Status}
 use Rattle.cloud_run.specs.declared.status.Status.TheVariants as status
 use Rattle.cloud_run.specs.Flows.{AtEnd, Got, GotPart}
@@ -44,21 +47,31 @@ program_of source = typed source.tree source.lines
 abbrev pub KeepsKinds : Parsed → Type 0
 KeepsKinds source = first_fault (items_of source.tree source.lines) ≡ None
 
--- The text that a command makes of a parsed source that keeps the rules of kinds, if it takes the source. `check` makes the
--- canonical text of every one, and `play` the report of one that has globals and clients alone and whose typed program is
--- in the first form.
-abbrev pub text_of : Command → Parsed → Option (List ℕ)
-text_of Check source = Some (canonical source.tree)
-text_of Play source = if is_bare source.tree then option_map (report_of (program_of source)) (first_form (program_of source)) else None
+-- Whether a command takes a parsed source that keeps the rules of kinds. `check` and `code` take every one, and `play` one
+-- without a schedule and with one client, which never flushes.
+abbrev pub takes : Command → Parsed → Bool
+takes Check source = true
+takes Code source = true
+takes Play source = is_none source.tree.schedule && is_playable (program_of source).bodies
+
+-- What a command makes of a source: `check` the canonical text, `code` the listing of its clients' codes, and `play` the
+-- report of its run.
+abbrev pub Makes : Command → Parsed → List ℕ → Type 0
+Makes Check source text = text ≡ canonical source.tree
+Makes Code source text = text ≡ listing_of (program_of source)
+Makes Play source text = Reports (program_of source) text
+
+-- the text of a command and a source which it takes
+abbrev pub TextOf : Command → Parsed → List ℕ → Type 0
+TextOf command source text = (takes command source ≡ true) × Makes command source text
 
 -- what a command asks of a source: that parsing answers a tree, which keeps the rules of kinds and which the command takes
 abbrev pub Accepts : Command → List ℕ → Type 0
-Accepts command text = (parsed : Parsed) × ParseAnswers text (Ok parsed) × KeepsKinds parsed × (text_of command parsed ≢ None)
+Accepts command text = (parsed : Parsed) × ParseAnswers text (Ok parsed) × KeepsKinds parsed × (takes command parsed ≡ true)
 
 -- What each status says of the whole text that the source had left. With success and with a write fault the command
 -- accepts it; a place of a syntax fault and a limit are what parsing answers; a rule of kinds is the first that fails in the
--- tree that parsing answers; and the limit of the first form comes where that tree keeps the rules and the command doesn't
--- take it.
+-- tree that parsing answers; and the limit of the form comes where that tree keeps the rules and the command doesn't take it.
 abbrev pub Judges : Command → Status → List ℕ → Type 0
 Judges command status.Done text = Accepts command text
 Judges command status.Words text = ⊤
@@ -66,7 +79,7 @@ Judges command status.ReadFault text = ⊤
 Judges command status.WriteFault text = Accepts command text
 Judges command (status.Syntax line column) text = ParseAnswers text (Err (fault.Syntax line column))
 Judges command (status.Kind rule line) text = (parsed : Parsed) × ParseAnswers text (Ok parsed) × KindAnswers parsed (Err (kind.Rule rule line))
-Judges command (status.Limit which.Form) text = (parsed : Parsed) × ParseAnswers text (Ok parsed) × KeepsKinds parsed × (text_of command parsed ≡ None)
+Judges command (status.Limit which.Form) text = (parsed : Parsed) × ParseAnswers text (Ok parsed) × KeepsKinds parsed × (takes command parsed ≡ false)
 Judges command (status.Limit w) text = ParseAnswers text (Err (fault.Limit w))
 Judges command status.Memory text = ⊤
 
@@ -98,8 +111,8 @@ LeftTyped left parsed = LeftParsed left parsed × KeepsKinds parsed
 -- source nothing is left unread then. With every other status the sink holds what it held.
 abbrev pub Writes : Option Command → Status → Option (List ℕ) → Option (List ℕ) → Option (List ℕ) → Option (List ℕ) → Type 0
 Writes None s left after held now = now ≡ held
-Writes (Some command) status.Done left after held now = (parsed : Parsed) × (text : List ℕ) × LeftTyped left parsed × (text_of command parsed ≡ Some text) × AtEnd after × Got held now text
-Writes (Some command) status.WriteFault left after held now = (parsed : Parsed) × (text : List ℕ) × LeftTyped left parsed × (text_of command parsed ≡ Some text) × AtEnd after × GotPart held now text
+Writes (Some command) status.Done left after held now = (parsed : Parsed) × (text : List ℕ) × LeftTyped left parsed × TextOf command parsed text × AtEnd after × Got held now text
+Writes (Some command) status.WriteFault left after held now = (parsed : Parsed) × (text : List ℕ) × LeftTyped left parsed × TextOf command parsed text × AtEnd after × GotPart held now text
 Writes (Some command) s left after held now = now ≡ held
 
 -- The text is that of a lawful diagram of the program: each client runs its body up to its end, and each of its queries is
@@ -111,6 +124,11 @@ pub record ReportsRun (p : Parts) (text : List ℕ) : Type 0 where
   pub report : text ≡ report_text p.schema p.names steps ends
   pub told : Told p.schema p.names steps ends
 
+-- the text lists the code of each client, which asks, does and ends as the client's body does
+pub record ListsCodes (p : Parts) (text : List ℕ) : Type 0 where
+  pub listed : text ≡ listing_of p
+  pub means : (client : ℕ) (body : List Statement) → slice_get p.bodies client ≡ Some body → Means p.schema (code_of p.schema body) body
+
 -- the text is a source of the program, if it isn't too long to be one
 abbrev pub ParsesAgain : Program → List ℕ → Type 0
 ParsesAgain p text = length text ≤ most_source_bytes → ParsesTo text p
@@ -118,12 +136,15 @@ ParsesAgain p text = length text ≤ most_source_bytes → ParsesTo text p
 -- what is known of a text that a command made
 abbrev pub IsLawfulText : Command → Parsed → List ℕ → Type 0
 IsLawfulText Check source text = ParsesAgain source.tree text
+IsLawfulText Code source text = ListsCodes (program_of source) text
 IsLawfulText Play source text = ReportsRun (program_of source) text
 
--- what `check` wrote is parsed to the source's program again, and what `play` wrote reports a run of that
+-- what `check` wrote is parsed to the source's program again, what `code` wrote lists the codes of its clients, and what
+-- `play` wrote reports a run of it
 abbrev pub WritesLawful : Option Command → Option (List ℕ) → Option (List ℕ) → Option (List ℕ) → Type 0
 WritesLawful None left held now = ⊤
 WritesLawful (Some Check) left held now = (parsed : Parsed) × (text : List ℕ) × LeftTyped left parsed × ParsesAgain parsed.tree text × Got held now text
+WritesLawful (Some Code) left held now = (parsed : Parsed) × (text : List ℕ) × LeftTyped left parsed × ListsCodes (program_of parsed) text × Got held now text
 WritesLawful (Some Play) left held now = (parsed : Parsed) × (text : List ℕ) × LeftTyped left parsed × ReportsRun (program_of parsed) text × Got held now text
 
 -- there is a command, and the source tells its text, which the command accepts
@@ -162,12 +183,12 @@ module _ where
             refl,
           ),
           refl,
-          λ e. cc,
+          refl,
         ),
         λ h. h,
       )
 
-  -- two clients aren't the first form
+  -- `play` takes no two clients
   pub example_form : Judges Play (status.Limit which.Form) (codes "schema { } client a { } client b { }")
   unfolding scan_behind lexeme_at reserved words
   example_form =

@@ -8,6 +8,11 @@ mod command;
 mod flows;
 #[cfg(test)]
 mod kinds;
+mod laws;
+#[cfg(test)]
+mod more_sources;
+#[cfg(test)]
+mod reports;
 #[cfg(test)]
 mod sources;
 mod status;
@@ -19,6 +24,7 @@ mod words;
 use arguments::given_words;
 use cloud_base::{StdSink, StdSource};
 pub use command::Command;
+pub use laws::texts_come_out_once;
 pub use status::Status;
 use std::env;
 use std::process::ExitCode;

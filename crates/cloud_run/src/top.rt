@@ -1,10 +1,10 @@
 // The top call: one command, from the source's bytes to the sink's.
-ghost use Rattle.std.specs.Prelude.{◌≡◌, Some, Err, IfOk, IfErr, IfSome, OnOk};
+ghost use Rattle.std.specs.Prelude.{◌≡◌, false, Some, Err, IfOk, IfErr, IfSome, OnOk, MatchOption};
 ghost use Rattle.kind_check.specs.KindAnswers.{KindAnswers};
 ghost use Rattle.cloud_run.specs.Commands.{command_of};
 ghost use Rattle.cloud_run.specs.Runs.{ReadsTree, Runs};
-ghost use Rattle.cloud_run.specs.Top.{KeepsKinds, ParsesAgain, ReportsRun, text_of};
-ghost use Rattle.cloud_run.specs.Top.{program_of, IsLawfulText};
+ghost use Rattle.cloud_run.specs.Top.{KeepsKinds, ParsesAgain, ListsCodes, ReportsRun};
+ghost use Rattle.cloud_run.specs.Top.{program_of, takes, IsLawfulText, TextOf};
 
 use crate::command::Command;
 use crate::flows::{ReadError, take_all, write_all};
@@ -13,9 +13,9 @@ use crate::words::Words;
 use cloud_base::{Failed, Sequence, Sink, Source};
 use cloud_drive::play;
 use cloud_parse::{ParseFault, Parsed, Which, one_answer, parse};
-use first_form::{first_form, is_bare};
+use code_gen::{codes_mean_bodies, listing};
 use kind_check::{KindFault, check};
-use one_client::{reports_tell_runs, runs_are_lawful};
+use one_client::{is_playable, runs_are_lawful, runs_are_told};
 use print_parses::print_parses;
 use source_print::print;
 use source_tokens::scanned_tokens;
@@ -44,7 +44,7 @@ fn read_tree<S: Source>(alloc: Global, source: &mut S) -> Result<Parsed, Status>
 
 // The canonical text of a source.
 fn canonical_text(alloc: Global, source: Parsed) -> Result<Sequence<u8>, KindFault>
-    ensures text { IfOk result (λ text. Some text ≡ text_of Command.Check source) }
+    ensures text { IfOk result (TextOf Command.Check source) }
     ensures lawful { IfOk result (ParsesAgain source.tree) }
     ensures kinds { OnOk result (KeepsKinds source) }
     ensures fault { IfErr result (λ fault. KindAnswers source (Err fault)) }
@@ -56,26 +56,39 @@ fn canonical_text(alloc: Global, source: Parsed) -> Result<Sequence<u8>, KindFau
     Ok(Sequence::from_vec(text))
 }
 
-// The report of a run of a source's program in the first form.
-#[tactic(auto, using(crate::proofs::Calls::reports_run))]
+// The listing of the codes of a source's clients.
+#[tactic(auto, using(crate::proofs::Calls::listed))]
+fn code_listing(alloc: Global, source: Parsed) -> Result<Sequence<u8>, KindFault>
+    ensures text { IfOk result (TextOf Command.Code source) }
+    ensures lawful { IfOk result (ListsCodes (program_of source)) }
+    ensures kinds { OnOk result (KeepsKinds source) }
+    ensures fault { IfErr result (λ fault. KindAnswers source (Err fault)) }
+{
+    let program = check(alloc, source)?;
+    let _ = program.schema();
+    codes_mean_bodies();
+    let text = listing(alloc, &program)?;
+    Ok(Sequence::from_vec(text))
+}
+
+// The report of the run of a source's program, if `play` takes it.
+#[tactic(auto, using(crate::proofs::Calls::played))]
 fn report(alloc: Global, source: Parsed) -> Result<Option<Sequence<u8>>, KindFault>
-    ensures text { IfOk result (λ text. text ≡ text_of Command.Play source) }
+    ensures text { IfOk result (λ text.
+        MatchOption text (takes Command.Play source ≡ false) (TextOf Command.Play source)) }
     ensures lawful { IfOk result (λ text. IfSome text (ReportsRun (program_of source))) }
     ensures kinds { OnOk result (KeepsKinds source) }
     ensures fault { IfErr result (λ fault. KindAnswers source (Err fault)) }
 {
-    let bare = is_bare(source.tree.program());
+    let scheduled = source.tree.program().schedule.is_some();
     let program = check(alloc, source)?;
-    if !bare {
+    if scheduled || !is_playable(&program) {
         return Ok(None);
     }
-    let Some(acts) = first_form(alloc, &program)? else {
-        return Ok(None);
-    };
     let _ = program.schema();
     runs_are_lawful();
-    reports_tell_runs();
-    let text = play(alloc, &program, acts.as_slice())?;
+    runs_are_told();
+    let text = play(alloc, &program)?;
     Ok(Some(Sequence::from_vec(text)))
 }
 
@@ -85,13 +98,15 @@ fn text_of(
     command: Command,
     source: Parsed,
 ) -> Result<Option<Sequence<u8>>, KindFault>
-    ensures text { IfOk result (λ text. text ≡ text_of command source) }
+    ensures text { IfOk result (λ text.
+        MatchOption text (takes command source ≡ false) (TextOf command source)) }
     ensures lawful { IfOk result (λ text. IfSome text (IsLawfulText command source)) }
     ensures kinds { OnOk result (KeepsKinds source) }
     ensures fault { IfErr result (λ fault. KindAnswers source (Err fault)) }
 {
     match command {
         Command::Check => Ok(Some(canonical_text(alloc, source)?)),
+        Command::Code => Ok(Some(code_listing(alloc, source)?)),
         Command::Play => report(alloc, source),
     }
 }
@@ -120,7 +135,8 @@ fn obey<S: Source, K: Sink>(alloc: Global, command: Command, source: &mut S, sin
 }
 
 /// Runs the command that the words are, for every command that doesn't wait. Each reads the source
-/// to its end; then `check` writes its canonical text, and `play` the report of its run.
+/// to its end; then `check` writes its canonical text, `code` the codes of its clients, and `play`
+/// the report of its run.
 #[tactic(auto, using(crate::proofs::Calls::no_command))]
 pub fn top_plain<S: Source, K: Sink>(
     alloc: Global,

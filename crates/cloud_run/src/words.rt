@@ -85,6 +85,7 @@ impl Words {
     {
         match self.words.as_slice() {
             [word] if word.is("check") => Some(Command::Check),
+            [word] if word.is("code") => Some(Command::Code),
             [word] if word.is("play") => Some(Command::Play),
             _ => None,
         }
@@ -92,10 +93,12 @@ impl Words {
 }
 
 /// The words of each command. No others are its.
-#[tactic(auto, using(crate::proofs::Played::check_words, crate::proofs::Played::play_words))]
+#[tactic(auto, using(crate::proofs::Played::command_words))]
 pub fn words_of_commands()
     ensures check { (words : List (List ℕ)) →
         (command_of words ≡ Some Command.Check) ↔ (words ≡ codes "check" ∷ []) }
+    ensures code { (words : List (List ℕ)) →
+        (command_of words ≡ Some Command.Code) ↔ (words ≡ codes "code" ∷ []) }
     ensures play { (words : List (List ℕ)) →
         (command_of words ≡ Some Command.Play) ↔ (words ≡ codes "play" ∷ []) }
 {}
