@@ -2,6 +2,8 @@
 use crate::arguments::given_words;
 use crate::cases::CASES;
 use crate::kinds::{ALONE, KEPT, KEYS, OPERATIONS, OTHERS, SHOP, TAKEN, UNKNOWN};
+use crate::more_sources::MORE_SOURCES;
+use crate::reports::{NOT_PLAYED, REPORTS};
 use crate::sources::SOURCES;
 use crate::{Command, Status, Words, top, top_plain};
 use cloud_base::{MemSink, MemSource, StdSink, StdSource};
@@ -90,54 +92,15 @@ fn clients(alloc: Global, count: u32) -> Result<String, Fail> {
 #[test]
 fn prints_reports(rt: HostRuntime) -> Result<(), Fail> {
     let alloc = rt.alloc();
-    for (statements, report) in [
-        (
-            "g.set(9223372036854775807); g.add(1); print g;",
-            "fork 0 1 a\n\
-             do 1 g.set(9223372036854775807)\n\
-             do 1 g.add(1)\n\
-             ask 1 g = -9223372036854775808\n\
-             say 1 -9223372036854775808\n\
-             end a Done\n",
-        ),
-        (
-            "g.add(2); print g; yield; print g;",
-            "fork 0 1 a\n\
-             do 1 g.add(2)\n\
-             ask 1 g = 2\n\
-             say 1 2\n\
-             mark 1 yield\n\
-             fork 1 2 a\n\
-             join 0 1\n\
-             ask 2 g = 2\n\
-             say 2 2\n\
-             end a Done\n",
-        ),
-        (
-            "g.add(2); print g; yield; print g; yield; print g;",
-            "fork 0 1 a\n\
-             do 1 g.add(2)\n\
-             ask 1 g = 2\n\
-             say 1 2\n\
-             mark 1 yield\n\
-             fork 1 2 a\n\
-             join 0 1\n\
-             fork 0 3 a\n\
-             ask 2 g = 2\n\
-             say 2 2\n\
-             mark 2 yield\n\
-             join 3 2\n\
-             fork 3 4 a\n\
-             join 0 3\n\
-             ask 4 g = 2\n\
-             say 4 2\n\
-             end a Done\n",
-        ),
-    ] {
-        let text = repeated(alloc, statements, 1)?;
-        let (status, sink) = played(alloc, text.as_str())?;
-        assert_eq!(rt; status, Status::Done, "at {statements}");
-        assert_eq!(rt; sink.held(), report.as_bytes(), "at {statements}");
+    for (source, report) in REPORTS {
+        let (status, sink) = played(alloc, source)?;
+        assert_eq!(rt; status, Status::Done, "at {source}");
+        assert_eq!(rt; sink.held(), report.as_bytes(), "at {source}");
+    }
+    for source in NOT_PLAYED {
+        let (status, sink) = played(alloc, source)?;
+        assert_eq!(rt; status, Status::Limit(Which::Form), "at {source}");
+        assert!(rt; sink.held().is_empty(), "at {source}");
     }
     Ok(())
 }
@@ -149,6 +112,8 @@ fn ends_where_the_turns_do(rt: HostRuntime) -> Result<(), Fail> {
         (" print g;", 8_192, "say 1 0", 8_192, "end a Done\n"),
         (" print g;", 8_193, "say 1 0", 8_192, "end a Spent\n"),
         (" yield;", 8_191, "mark ", 8_191, "end a Done\n"),
+        (" print 1;", 16_384, "say 1 1", 16_384, "end a Done\n"),
+        (" print 1;", 16_385, "say 1 1", 16_384, "end a Spent\n"),
     ] {
         let text = repeated(alloc, statement, times)?;
         let (status, sink) = played(alloc, text.as_str())?;
@@ -173,11 +138,9 @@ fn refuses_texts_and_words(rt: HostRuntime) -> Result<(), Fail> {
         let (status, _sink) = played(alloc, padded(alloc, spaces)?.as_str())?;
         assert_eq!(rt; status, wanted, "at {spaces} spaces");
     }
-    let (status, sink) = played(alloc, "schema { } client a { flush; }")?;
-    assert_eq!(rt; status, Status::Limit(Which::Form));
+    let status = Status::Limit(Which::Form);
     assert_eq!(rt; status.number(), 6);
     assert_eq!(rt; status.to_string(alloc)?.as_str(), "limit Form");
-    assert!(rt; sink.held().is_empty());
     for given in [&[][..], &["play", "x"][..], &["plays"][..], &["Play"][..]] {
         let mut source = MemSource::new(alloc, SMALL.as_bytes(), 1, Some(0))?;
         let mut sink = MemSink::new(alloc, 1, 0)?;
@@ -205,14 +168,16 @@ fn checks_cases(rt: HostRuntime) -> Result<(), Fail> {
     Ok(())
 }
 
-// The line of the status of `check`. Where that is a rule of kinds, `play` says the same, and
-// neither writes.
+// The line of the status of `check`. Where that is a rule of kinds, the other commands say the
+// same, and none writes.
 fn kind_line(alloc: Global, source: &str) -> Result<String, Fail> {
     let (status, canonical) = checked(alloc, source)?;
     if let Status::Kind { .. } = status {
-        let (other, report) = played(alloc, source)?;
-        if other != status || !canonical.held().is_empty() || !report.held().is_empty() {
-            return Err(Fail::from("the commands differ, or one writes"));
+        for word in ["code", "play"] {
+            let (other, text) = told(alloc, word, source.as_bytes())?;
+            if other != status || !canonical.held().is_empty() || !text.held().is_empty() {
+                return Err(Fail::from("the commands differ, or one writes"));
+            }
         }
     }
     Ok(status.to_string(alloc)?)
@@ -236,15 +201,20 @@ fn tells_kinds(rt: HostRuntime) -> Result<(), Fail> {
 }
 
 #[test]
-fn prints_canonical_texts(rt: HostRuntime) -> Result<(), Fail> {
+fn prints_sources(rt: HostRuntime) -> Result<(), Fail> {
     let alloc = rt.alloc();
-    for (source, canonical) in SOURCES {
-        let (status, sink) = checked(alloc, source)?;
-        assert_eq!(rt; status, Status::Done, "at {source}");
-        assert_eq!(rt; sink.held(), canonical.as_bytes(), "at {source}");
-        let (status, again) = told(alloc, "check", sink.held())?;
-        assert_eq!(rt; status, Status::Done, "at {canonical}");
-        assert_eq!(rt; again.held(), canonical.as_bytes(), "at {canonical}");
+    for table in [SOURCES, MORE_SOURCES] {
+        for (source, canonical, listing, report) in table {
+            let (_, sink) = checked(alloc, source)?;
+            assert_eq!(rt; sink.held(), canonical.as_bytes(), "at {source}");
+            let (_, again) = told(alloc, "check", sink.held())?;
+            assert_eq!(rt; again.held(), canonical.as_bytes(), "at {canonical}");
+            let (status, codes) = told(alloc, "code", source.as_bytes())?;
+            assert_eq!(rt; status, Status::Done, "at {source}");
+            assert_eq!(rt; codes.held(), listing.as_bytes(), "at {source}");
+            let (_, played) = played(alloc, source)?;
+            assert_eq!(rt; played.held(), report.as_bytes(), "at {source}");
+        }
     }
     Ok(())
 }
@@ -346,6 +316,7 @@ fn the_first_argument_is_no_word(rt: HostRuntime) -> Result<(), Fail> {
     for (given, command) in [
         (&["cloud", "play"][..], Some(Command::Play)),
         (&["cloud", "check"][..], Some(Command::Check)),
+        (&["cloud", "code"][..], Some(Command::Code)),
         (&["cloud", "", "play"][..], None),
         (&["play"][..], None),
         (&[][..], None),
