@@ -12,6 +12,10 @@ mod laws;
 #[cfg(test)]
 mod more_sources;
 #[cfg(test)]
+mod packet_tests;
+#[cfg(test)]
+mod packets;
+#[cfg(test)]
 mod reports;
 #[cfg(test)]
 mod sources;
