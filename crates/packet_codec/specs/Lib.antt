@@ -1,0 +1,4 @@
+pub mod Served
+pub mod Pushes
+pub mod Replies
+pub mod Runs
