@@ -1,1 +1,2 @@
 mod Storms
+mod Joining

@@ -1,1 +1,2 @@
 pub mod Weathers
+pub mod Servers

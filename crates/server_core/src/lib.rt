@@ -1,7 +1,8 @@
-// The server of a run, its weather and its station.
 #![tactic(auto)]
 
+mod server;
 mod weather;
 
 pub use cloud_base::Fate;
+pub use server::{NoRoom, Server};
 pub use weather::{Fair, Storm, Weather};

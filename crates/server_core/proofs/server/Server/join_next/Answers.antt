@@ -1,0 +1,8 @@
+use Rattle.std.proofs.Common.{◌≡◌, ◌∙◌, ap, sym, subst}
+use Rattle.std.proofs.lemmas.Result.{on_ok_weaker}
+use Rattle.server_core.specs.Servers.{Serving, last_of}
+use Rattle.server_core.proofs.Joining.{begun_round}
+use Rattle.server_core.proofs.server.Server.join_next.Goals as goal
+
+pub returns-then-round-last-clause-begun : goal.returns-then-round-last-clause-begun
+returns-then-round-last-clause-begun c = begun_round c.args.push.now.past.list c.args.push.now.own.list c.args.push.now.batch c.keeps.ensures.may.follows

@@ -1,0 +1,91 @@
+-- What a server stands for, and what it does with a push.
+use Rattle.std.specs.Prelude.{◌≡◌, refl, ℕ, ◌+◌, ◌==◌, ◌≤◌, ◌<◌, List, [], ◌∷◌, ◌++◌, length, Option, Some, None, slice_get, slice_index_or, slice_set, if◌then◌else◌}
+use Rattle.std.specs.List.{AllByRecursion}
+use Rattle.cloud_base.specs.Values.{most_clients}
+use Rattle.cloud_base.specs.declared.batch.Batch.{Batch}
+use Rattle.cloud_base.specs.declared.schema.Schema.{Schema}
+use Rattle.batch_history.specs.Batches.{of_client}
+use Rattle.batch_joins.specs.Joins.{all_updates}
+use Rattle.front_table.specs.TokenView.{TokenView}
+use Rattle.schema_fj.specs.Held.{Held}
+use Rattle.schema_fj.specs.States.{StateStands}
+use Rattle.slot_hub.specs.Runs.{Named, clients_of, nowhere}
+use Rattle.packet_codec.specs.Served.{IsServed}
+use Rattle.packet_codec.specs.Pushes.{Pushed}
+use Rattle.packet_codec.specs.Replies.{Replied}
+
+-- A server: its schema, its record, which is the list of its chronicle, and each client's own
+-- batches, where it has some.
+pub record Serving : Type 0 where
+  pub schema : Schema
+  pub joined : TokenView Batch
+  pub owns : List (Option (TokenView Batch))
+
+-- the batches of a front, none where there is no front
+abbrev pub own_batches : Option (TokenView Batch) → List Batch
+own_batches None = []
+own_batches (Some front) = front.list
+
+-- what a server has of client c
+abbrev pub own_front : ℕ → List (Option (TokenView Batch)) → Option (TokenView Batch)
+own_front c owns = slice_index_or owns c None
+
+-- what each server keeps of its record
+pub record IsRecord (schema : Schema) (batches : List Batch) (owns : List (Option (TokenView Batch))) : Type 0 where
+  -- there are some clients, and no more than there may be
+  pub some : 1 ≤ length owns
+  pub most : length owns ≤ most_clients
+  -- each batch is of one of them
+  pub clients : AllByRecursion (λ (b : Batch). b.client < length owns) batches
+  -- the record is sound, answered right, of the schema and within its bounds
+  pub served : IsServed schema batches
+  -- and what is kept of a client is just its batches
+  pub own : (c : ℕ) → own_batches (own_front c owns) ≡ of_client c batches
+
+abbrev pub IsServing : Serving → Type 0
+IsServing server = IsRecord server.schema server.joined.list server.owns
+
+-- the state of a server is that of its record
+abbrev pub StandsFor : Schema → List Batch → Held → Type 0
+StandsFor schema batches state = StateStands schema state (all_updates batches) []
+
+-- the round of a client's last batch in a record, 0 where there is none
+abbrev pub last_round : ℕ → List Batch → ℕ
+last_round c batches = length (of_client c batches)
+
+abbrev pub last_of : Pushed → Serving → ℕ
+last_of push server = last_round push.batch.client server.joined.list
+
+-- a server that joined a push: the batch is the last of the record, and what it has of the client are the push's own batches
+abbrev pub joined_with : Pushed → Serving → Serving
+joined_with push server = record {
+  schema = server.schema;
+  joined = record { chronicle = server.joined.chronicle; list = server.joined.list ++ push.batch ∷ [] };
+  owns = slice_set server.owns push.batch.client (Some push.own);
+}
+
+-- a server joins a push of a client's next round, and stays as it is at any other
+abbrev pub after_push : Pushed → Serving → Serving
+after_push push server = if push.batch.round == last_of push server + 1 then joined_with push server else server
+
+-- a reply to a client's round tells of the whole record, and of all that the record has of the client
+pub record Answers (client round : ℕ) (server : Serving) (reply : Replied) : Type 0 where
+  pub schema : reply.schema ≡ server.schema
+  pub of : reply.client ≡ client
+  pub number : reply.round ≡ round
+  pub past : reply.past ≡ server.joined
+  pub own : Some reply.own ≡ own_front client server.owns
+
+-- a push that a server may take: it is of the server's schema, its front is of the server's record, and its client is there
+pub record IsFor (push : Pushed) (server : Serving) : Type 0 where
+  pub schema : push.schema ≡ server.schema
+  pub past : push.past.chronicle ≡ server.joined.chronicle
+  pub client : push.batch.client < length server.owns
+
+-- A server is of a run: its schema is the run's, its record is the server's chronicle there, it has as many clients, and what it
+-- has of each is of that client's chronicle.
+pub record IsServerOf (server : Serving) (run : Named) : Type 0 where
+  pub schema : server.schema ≡ run.schema
+  pub joined : slice_get run.tables 0 ≡ Some server.joined.chronicle
+  pub clients : length server.owns ≡ clients_of run
+  pub own : (c : ℕ) (front : TokenView Batch) → own_front c server.owns ≡ Some front → slice_get run.tables (c + 1) ≡ Some front.chronicle
