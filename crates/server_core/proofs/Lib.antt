@@ -1,2 +1,5 @@
 mod Storms
 mod Joining
+mod Touching
+mod Kept
+mod Drawn

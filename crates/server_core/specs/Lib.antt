@@ -1,2 +1,3 @@
 pub mod Weathers
 pub mod Servers
+pub mod Stations

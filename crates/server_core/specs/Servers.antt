@@ -1,15 +1,17 @@
 -- What a server stands for, and what it does with a push.
-use Rattle.std.specs.Prelude.{◌≡◌, refl, ℕ, ◌+◌, ◌==◌, ◌≤◌, ◌<◌, List, [], ◌∷◌, ◌++◌, length, Option, Some, None, slice_get, slice_index_or, slice_set, if◌then◌else◌}
+use Rattle.std.specs.Prelude.{◌≡◌, refl, ℕ, zero, suc, ◌+◌, ◌==◌, ◌≤◌, ◌<◌, List, [], ◌∷◌, ◌++◌, length, Option, Some, None, slice_get, slice_index_or, slice_set, if◌then◌else◌}
+use Rattle.std.proofs.Common.{ap, lit<}
 use Rattle.std.specs.List.{AllByRecursion}
 use Rattle.cloud_base.specs.Values.{most_clients}
 use Rattle.cloud_base.specs.declared.batch.Batch.{Batch}
 use Rattle.cloud_base.specs.declared.schema.Schema.{Schema}
+use Rattle.cloud_base.specs.declared.update.Event.TheVariants.{Yield}
 use Rattle.batch_history.specs.Batches.{of_client}
 use Rattle.batch_joins.specs.Joins.{all_updates}
 use Rattle.front_table.specs.TokenView.{TokenView}
 use Rattle.schema_fj.specs.Held.{Held}
 use Rattle.schema_fj.specs.States.{StateStands}
-use Rattle.slot_hub.specs.Runs.{Named, clients_of, nowhere}
+use Rattle.slot_hub.specs.Runs.{Named, clients_of, nowhere, two_clients}
 use Rattle.packet_codec.specs.Served.{IsServed}
 use Rattle.packet_codec.specs.Pushes.{Pushed}
 use Rattle.packet_codec.specs.Replies.{Replied}
@@ -89,3 +91,39 @@ pub record IsServerOf (server : Serving) (run : Named) : Type 0 where
   pub joined : slice_get run.tables 0 ≡ Some server.joined.chronicle
   pub clients : length server.owns ≡ clients_of run
   pub own : (c : ℕ) (front : TokenView Batch) → own_front c server.owns ≡ Some front → slice_get run.tables (c + 1) ≡ Some front.chronicle
+
+module _ where
+  abbrev batch : Batch
+  batch = record { client = 1; round = 1; base = 0; before = []; rest = Yield ∷ [] }
+
+  abbrev none_yet : TokenView Batch
+  none_yet = record { chronicle = nowhere; list = [] }
+
+  abbrev own : TokenView Batch
+  own = record { chronicle = nowhere; list = batch ∷ [] }
+
+  abbrev opened : Serving
+  opened = record { schema = two_clients.schema; joined = none_yet; owns = None ∷ None ∷ [] }
+
+  abbrev push : Pushed
+  push = record { schema = two_clients.schema; wire = []; batch = batch; past = none_yet; own = own }
+
+  -- a client's first push is joined
+  pub example_joined : after_push push opened ≡ record { schema = two_clients.schema; joined = own; owns = None ∷ Some own ∷ [] }
+  example_joined = refl
+
+  -- and not again when it comes a second time
+  pub example_again : (last_of push (after_push push opened) ≡ 1) × (after_push push (after_push push opened) ≡ after_push push opened)
+  example_again = (refl, refl)
+
+  -- it is for the server, and the server is of a run of two clients before and after
+  pub example_for : IsFor push opened
+  example_for = record { schema = refl; past = refl; client = lit< tt }
+
+  pub example_of_run : IsServerOf (after_push push opened) two_clients
+  example_of_run = record { schema = refl; joined = refl; clients = refl; own = whose }
+    where
+      whose : (c : ℕ) (front : TokenView Batch) → own_front c (None ∷ Some own ∷ []) ≡ Some front → slice_get (nowhere ∷ nowhere ∷ nowhere ∷ []) (c + 1) ≡ Some front.chronicle
+      whose zero front e = absurd (cc (e))
+      whose (suc zero) front e = let same : own ≡ front = cc (e) in ap (λ (f : TokenView Batch). Some f.chronicle) same
+      whose (suc (suc c)) front e = absurd (cc (e))

@@ -1,5 +1,5 @@
 -- What happens to packets, one after another.
-use Rattle.std.specs.Prelude.{◌≡◌, refl, ℕ, zero, suc, ◌+◌, ◌*◌, ◌/◌, ◌%◌, ◌^◌, nat_lt, if◌then◌else◌, List, [], ◌∷◌, Option, Some, None, slice_index_or}
+use Rattle.std.specs.Prelude.{◌≡◌, refl, ℕ, zero, suc, ◌+◌, ◌*◌, ◌/◌, ◌%◌, ◌^◌, nat_lt, if◌then◌else◌, List, [], ◌∷◌, length, Option, Some, None, slice_index_or}
 use Rattle.cloud_base.specs.declared.schedule.Fate.{Fate}
 use Rattle.cloud_base.specs.declared.schedule.Fate.TheVariants.{Pass, LosePush, LoseReply, Twice, Hold}
 
@@ -18,6 +18,17 @@ abbrev pub Draws : Fate → Option (ℕ → Fate) → Option (ℕ → Fate) → 
 Draws fate None after = after ≡ None
 Draws fate (Some before) None = ⊥
 Draws fate (Some before) (Some after) = IsFirst fate before after
+
+-- fates are the first of those that came next, and the others come next
+pub record AreFirst (fates : List Fate) (before after : ℕ → Fate) : Type 0 where
+  pub first : next_fates before (length fates) ≡ fates
+  pub others : (k : ℕ) → after k ≡ before (length fates + k)
+
+-- fates that a weather draws one after another
+abbrev pub DrawsAll : List Fate → Option (ℕ → Fate) → Option (ℕ → Fate) → Type 0
+DrawsAll fates None after = after ≡ None
+DrawsAll fates (Some before) None = ⊥
+DrawsAll fates (Some before) (Some after) = AreFirst fates before after
 
 -- the number that follows a number in a storm
 abbrev pub number_after : ℕ → ℕ

@@ -183,6 +183,14 @@ impl Server {
         batches
     }
 
+    // The number of its clients.
+    pub(crate) fn clients(&self) -> u8
+        ensures { result ≡ length self.now.owns }
+    {
+        let _ = &self.alloc;
+        self.owns.len() as u8
+    }
+
     // The round of a client's last batch.
     fn last(&self, client: u8) -> u64
         requires { client < length self.now.owns }

@@ -7,7 +7,7 @@ ghost use Rattle.server_core.specs.Weathers.{Draws, coming, fate_of, number_afte
 use cloud_base::Fate;
 
 /// What happens to each push that a server takes.
-pub trait Weather {
+pub trait Weather: Drop {
     ghost fates: { Self → Option (ℕ → Fates) };
 
     /// What happens to the next push.

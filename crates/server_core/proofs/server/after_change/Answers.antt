@@ -1,4 +1,4 @@
-use Rattle.std.proofs.Common.{◌≡◌, List, [], ◌++◌, sym, subst, append-nil}
+use Rattle.std.proofs.Common.{List, [], ◌++◌, sym, subst, append-nil}
 use Rattle.std.proofs.lemmas.Result.{IfOk-weaker}
 use Rattle.cloud_base.specs.Alike.{IsPart}
 use Rattle.cloud_base.specs.Shaped.{Fit}

@@ -1,4 +1,4 @@
-use Rattle.std.proofs.Common.{◌≡◌, ◌+◌, ◌∙◌, List, [], ◌∷◌, ◌++◌, ap, sym, subst, length}
+use Rattle.std.proofs.Common.{◌≡◌, ◌+◌, ◌∙◌, List, [], ◌∷◌, ◌++◌, ap, sym, subst}
 use Rattle.std.specs.Prelude.{Some, slice_set}
 use Rattle.std.specs.Arc.{arc_value}
 use mathlib.Core.List.{IsPrefix}
@@ -8,7 +8,7 @@ use Rattle.batch_history.specs.Batches.{updates_in, flat}
 use Rattle.batch_joins.specs.Joins.{all_updates}
 use Rattle.change_lists.specs.Effects.{IsEffect}
 use Rattle.packet_codec.specs.Pushes.{MayPush}
-use Rattle.server_core.specs.Servers.{Serving, IsFor, IsRecord, StandsFor, last_of}
+use Rattle.server_core.specs.Servers.{Serving, IsFor, IsRecord, last_of}
 use Rattle.server_core.proofs.Joining.{joined_fits, joined_kept}
 use Rattle.server_core.proofs.server.Server.join.Goals as goal
 

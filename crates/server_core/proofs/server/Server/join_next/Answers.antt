@@ -1,6 +1,3 @@
-use Rattle.std.proofs.Common.{◌≡◌, ◌∙◌, ap, sym, subst}
-use Rattle.std.proofs.lemmas.Result.{on_ok_weaker}
-use Rattle.server_core.specs.Servers.{Serving, last_of}
 use Rattle.server_core.proofs.Joining.{begun_round}
 use Rattle.server_core.proofs.server.Server.join_next.Goals as goal
 

@@ -1,4 +1,4 @@
-use Rattle.std.proofs.Common.{◌≡◌, sym, subst, inl, inr}
+use Rattle.std.proofs.Common.{sym, subst, inl, inr}
 use Rattle.server_core.specs.Servers.{Serving, IsServerOf}
 use Rattle.server_core.proofs.Joining.{after_of_run}
 use Rattle.server_core.proofs.server.Server.take.Goals as goal
