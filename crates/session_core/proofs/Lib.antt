@@ -1,0 +1,10 @@
+mod EventLemmas
+mod Flushes
+mod Notes
+mod Updates
+mod Begins
+mod Takes
+mod Meets
+mod Turning
+mod Halves
+mod Fetching
