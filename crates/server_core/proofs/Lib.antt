@@ -3,3 +3,4 @@ mod Joining
 mod Touching
 mod Kept
 mod Drawn
+mod First

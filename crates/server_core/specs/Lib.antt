@@ -1,3 +1,4 @@
 pub mod Weathers
 pub mod Servers
 pub mod Stations
+pub mod First

@@ -9,3 +9,6 @@ pub use cloud_base::Fate;
 pub use server::{NoRoom, Server};
 pub use station::{Served, Station};
 pub use weather::{Fair, Storm, Weather};
+
+#[cfg(test)]
+mod tests;
