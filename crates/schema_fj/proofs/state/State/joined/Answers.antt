@@ -9,14 +9,14 @@ use Rattle.schema_fj.specs.Joined.{JoinsCells}
 use Rattle.schema_fj.specs.States.{StateHolds}
 use Rattle.schema_fj.specs.Told.{AreNew, creates, deletes}
 use Rattle.schema_fj.proofs.StateJoin.{are_new, new_to_joiner, joined_holds}
-use Rattle.schema_fj.proofs.state.State.join_change.Goals as goal
+use Rattle.schema_fj.proofs.state.State.joined.Goals as goal
 
-pub returns-clause-ok : goal.returns-clause-ok
-returns-clause-ok c schema base delta before after stands told part fit =
+pub returns : goal.returns
+returns c schema base delta before after stands told part fit =
     let change : ChangeLists = c.args.change.now in
     let once : CreatedOnce (base ++ delta ++ after) = subst CreatedOnce (sym (append_assoc base delta after)) fit.once in
     let new = are_new change.created (base ++ delta) told.created.ascends (new_to_joiner (base ++ delta) before after change.created once told.created) in
-    let created = c.in_ok-create_all.ensures schema base delta (c.in_ok-next.ensures schema base delta stands.holds) (subst (λ (l : List Created). AreNew l (base ++ delta)) (sym c.created.ensures.created) new) in
+    let created = c.in_ok-create_all.ensures schema base delta (c.in_ok-joined.ensures schema base delta stands.holds) (subst (λ (l : List Created). AreNew l (base ++ delta)) (sym c.created.ensures.created) new) in
     let deleted = c.in_ok-delete_all.ensures schema base (delta ++ creates c.created.result.now) created in
     let now : StateHolds schema c.delete_all.new.self base (delta ++ (creates change.created ++ deletes change.dead)) =
     subst (λ (l : List Created). StateHolds schema c.delete_all.new.self base (delta ++ (creates l ++ deletes change.dead))) c.created.ensures.created
