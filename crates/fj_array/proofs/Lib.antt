@@ -2,5 +2,3 @@ pub mod CellLemmas
 pub mod GridLemmas
 pub mod WalkLemmas
 pub mod ListLemmas
-pub mod TouchLemmas
-pub mod StretchLemmas

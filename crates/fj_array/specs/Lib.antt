@@ -1,4 +1,3 @@
 pub mod Cells
 pub mod Effects
 pub mod Grids
-pub mod Touched

@@ -1,6 +1,5 @@
 pub mod FateLemmas
-pub mod GroupLemmas
-pub mod KeptLemmas
+pub mod LinkLemmas
 pub mod ListLemmas
 pub mod RosterLemmas
 pub mod WalkLemmas

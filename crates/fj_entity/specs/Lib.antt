@@ -1,5 +1,4 @@
 pub mod Fates
-pub mod Groups
-pub mod Kept
+pub mod Links
 pub mod Rosters
 pub mod Walks

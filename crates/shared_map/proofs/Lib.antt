@@ -1,5 +1,0 @@
-pub mod EntryLemmas
-pub mod LaidLemmas
-pub mod PlaceLemmas
-pub mod EditLemmas
-pub mod WalkLemmas
