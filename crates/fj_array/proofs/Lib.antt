@@ -2,3 +2,5 @@ pub mod CellLemmas
 pub mod GridLemmas
 pub mod WalkLemmas
 pub mod ListLemmas
+pub mod TouchLemmas
+pub mod StretchLemmas

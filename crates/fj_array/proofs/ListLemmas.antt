@@ -1,5 +1,5 @@
 -- A list that is filled in a walk over the kept cells, with exactly the items that are asked for.
-use Rattle.std.proofs.Common.{◌≡◌, Bool, true, false, List, [], ◌∷◌, ◌++◌, inl, inr, cond, refl, sym, ◌∙◌, ap, subst, ℕ, arith}
+use Rattle.std.proofs.Common.{◌≡◌, Bool, true, false, List, [], ◌∷◌, ◌++◌, inl, inr, cond, refl, sym, ◌∙◌, ap, subst, ℕ, ◌<◌, arith}
 use Rattle.std.specs.Prelude.{Option, Some, None, ◌↔◌, Contains}
 use Rattle.std.specs.List.{AllByRecursion}
 use Rattle.std.specs.List.Sorted.{IsStrictlySortedBy}
@@ -8,6 +8,8 @@ use Rattle.std.specs.BTreeMap.{is_at}
 use Rattle.std.specs.declared.cmp.Ordering.{Ordering}
 use Rattle.std.specs.declared.cmp.Ordering.TheVariants.{Less}
 use Rattle.std.specs.Cmp.{IsTotalOrder}
+use Rattle.std.proofs.lemmas.Map.{lookup-none}
+use Rattle.std.proofs.lemmas.Map.Entries.{none_below_head}
 use Rattle.std.proofs.lemmas.Map.Keys.{sorted_head, sorted_tail}
 use Rattle.std.proofs.lemmas.List.Elements.{Contains-push, Contains-push_cases, Contains-append_left}
 use Rattle.cloud_base.specs.Sorted.{Lists}
@@ -21,6 +23,8 @@ use Rattle.fj_array.proofs.GridLemmas.{Apart, by_cases}
 use Rattle.fj_array.specs.Grids.{kept_at, GridStands}
 use Rattle.fj_array.proofs.CellLemmas.{of_cell-append}
 use Rattle.fj_array.proofs.GridLemmas.{when_some, when_none}
+use Rattle.shared_map.specs.Entries.{entries_from}
+use Rattle.fj_array.proofs.StretchLemmas.{kept_from, sorted_from, first_in, later}
 use Rattle.fj_array.proofs.WalkLemmas.{none_after}
 use Rattle.cloud_base.specs.Order.{keys_order}
 use Rattle.fj_array.specs.Effects.{effect_order}
@@ -112,10 +116,18 @@ module _ {S X : Type 0} (order : X → X → Ordering) (cell : X → Cell) (P : 
         (λ is. Contains-append_left list (y ∷ []) x (h.every x p' (look k s rest (cell x) is e)));
   }
 
+  -- nothing that is asked for is left
+  pub list_stop : (rest : List (Cell × S)) (list : List X) → ((x : X) → lookup (is_at (cell_order (cell x))) rest ≡ None) → Listed order cell P rest list → Lists order list P
+  list_stop rest list none h = record { ascends = h.ascends; only = λ x is. (h.only x is).0; every = λ x p. h.every x p (none x) }
+
   pub list_end : (rest : List (Cell × S)) (list : List X) → rest ≡ [] → Listed order cell P rest list → Lists order list P
   list_end rest list e h =
       let done : Listed order cell P [] list = subst (λ (r : List (Cell × S)). Listed order cell P r list) e h in
       record { ascends = done.ascends; only = λ x is. (done.only x is).0; every = λ x p. done.every x p refl }
+
+-- cells come by property, and then by keys
+abbrev pub ByParts : Type 0
+ByParts = (a b : Cell) → cell_order a b ≡ ordering_then (nat_cmp a.property b.property) (keys_order a.keys b.keys)
 
 -- what `entries` lists: key lists whose cell hasn't its default
 abbrev pub entry_cell : ℕ → List Key → Cell
@@ -133,11 +145,12 @@ module _ {S C V : Type 0} (plain : List C → V) (effect_of : List C → Option 
   default_unkept cell h none =
       ap plain (of_cell-append cell base delta) ∙ (when_none plain effect_of stands (kept_at cells cell) (of_cell cell base) (of_cell cell delta) (sym none) (h cell)).0
 
-  pub entries_start : (property : ℕ) → IsStrictlySortedBy cell_order (keys_of cells) → GridStands plain effect_of stands cells base delta
-      → Listed keys_order (entry_cell property) (IsEntry plain property (base ++ delta)) cells []
-  entries_start property sorted h =
-      list_start keys_order (entry_cell property) (IsEntry plain property (base ++ delta)) cells sorted
-      (λ keys entry none. entry (default_unkept (entry_cell property keys) h none))
+  pub entries_start : IsTotalOrder cell_order → ByParts → (property : ℕ) → IsStrictlySortedBy cell_order (keys_of cells) → GridStands plain effect_of stands cells base delta
+      → Listed keys_order (entry_cell property) (IsEntry plain property (base ++ delta)) (entries_from cell_order cells (entry_cell property [])) []
+  entries_start o by_parts property sorted h =
+      list_start keys_order (entry_cell property) (IsEntry plain property (base ++ delta)) (entries_from cell_order cells (entry_cell property [])) (sorted_from (entry_cell property []) cells sorted)
+      (λ keys entry none. entry (default_unkept (entry_cell property keys) h
+      (sym (kept_from o cells (entry_cell property []) (entry_cell property keys) (first_in by_parts property keys)) ∙ none)))
 
   -- a kept state that says whether its value is another than the default
   pub set_kept : (property : ℕ) (keys : List Key) (s : S) (r : Bool) → GridStands plain effect_of stands cells base delta → kept_at cells (entry_cell property keys) ≡ Some s
@@ -149,22 +162,18 @@ module _ {S C V : Type 0} (plain : List C → V) (effect_of : List C → Option 
       let both = ap plain (of_cell-append cell base delta) in
       (λ e is. said.0 e (sym both ∙ is), λ entry. said.1 (λ is. entry (both ∙ is)))
 
-  pub effects_start : IsStrictlySortedBy cell_order (keys_of cells) → GridStands plain effect_of stands cells base delta
-      → Listed effect_order cell_of (IsEffect effect_of delta) cells []
-  effects_start sorted h =
-      list_start effect_order cell_of (IsEffect effect_of delta) cells sorted
-      (λ it is none.
-      let idle = when_none plain effect_of stands (kept_at cells (cell_of it)) (of_cell (cell_of it) base) (of_cell (cell_of it) delta) (sym none) (h (cell_of it)) in
-      none_not_some it.effect (sym idle.1 ∙ is))
-    where
-      none_not_some : (e : Effect) → None ≡ Some e → ⊥
-      none_not_some e is = cc
-
   -- a kept state that says what was done to it
   pub effect_kept : (cell : Cell) (s : S) (r : Option Effect) → GridStands plain effect_of stands cells base delta → kept_at cells cell ≡ Some s
       → ((before after : List C) → stands s before after → r ≡ effect_of after) → r ≡ effect_of (of_cell cell delta)
   effect_kept cell s r h some says =
       says (of_cell cell base) (of_cell cell delta) (when_some plain effect_of stands (kept_at cells cell) s (of_cell cell base) (of_cell cell delta) (sym some) (h cell)).0
+
+-- where a cell of a higher property comes next, no cell of the property is left
+pub stretch_over : {S : Type 0} → IsTotalOrder cell_order → ByParts → (property : ℕ) (k : Cell) (s : S) (rest : List (Cell × S)) → IsStrictlySortedBy cell_order (keys_of ((k, s) ∷ rest))
+    → property < k.property → (keys : List Key) → lookup (is_at (cell_order (entry_cell property keys))) ((k, s) ∷ rest) ≡ None
+stretch_over o by_parts property k s rest sorted low keys =
+    lookup-none (is_at (cell_order (entry_cell property keys))) ((k, s) ∷ rest)
+    (none_below_head o (entry_cell property keys) (k, s) rest sorted (later o by_parts (entry_cell property keys) k low))
 
 -- cells of one property by their keys
 pub less_keys : ((a b : Cell) → cell_order a b ≡ ordering_then (nat_cmp a.property b.property) (keys_order a.keys b.keys)) → (property : ℕ) (a b : List Key)

@@ -80,65 +80,9 @@ module _ {S : Type 0} where
   pub look_here : IsTotalOrder cell_order → (cells : List (Cell × S)) (k : Cell) (s : S) (rest : List (Cell × S)) → Looked cells ((k, s) ∷ rest) → kept_at cells k ≡ Some s
   look_here o cells k s rest = walk_head o k s rest (λ q t. kept_at cells q ≡ Some t) (λ q. Unit {0})
 
-  -- a copy, cell by cell
-  pub copy_step : Apart → IsTotalOrder cell_order → (source made made' : List (Cell × S)) (k : Cell) (s : S) (rest : List (Cell × S))
-      → kept_at made' k ≡ Some s → ((q : Cell) → same_cell k q ≡ false → kept_at made' q ≡ kept_at made q)
-      → Walked ((k, s) ∷ rest) (λ q t. (kept_at source q ≡ Some t) × (kept_at made q ≡ None)) (λ q. kept_at made q ≡ kept_at source q)
-      → Walked rest (λ q t. (kept_at source q ≡ Some t) × (kept_at made' q ≡ None)) (λ q. kept_at made' q ≡ kept_at source q)
-  copy_step apart o source made made' k s rest here others =
-      walk_step apart o k s rest _ _ _ _
-      (λ t. here ∙ sym t.0) (λ q t is h. (h.0, others q is ∙ h.1)) (λ q is h. others q is ∙ h)
-
 module _ {S C V : Type 0} (plain : List C → V) (effect_of : List C → Option Effect) (stands : S → List C → List C → Type 0) where
-  abbrev pub ToFork : List (Cell × S) → List (Cell × S) → Cell → S → Type 0
-  ToFork parent child q s = (kept_at parent q ≡ Some s) × (kept_at child q ≡ None)
-
   abbrev pub Forked : List (Cell × S) → List (Cell × S) → Cell → Type 0
   Forked parent child q = Forks plain effect_of stands (kept_at parent q) (kept_at child q)
 
-  pub fork_step : Apart → IsTotalOrder cell_order → (parent child child' : List (Cell × S)) (k : Cell) (s made : S) (rest : List (Cell × S))
-      → Puts plain effect_of stands k made child child' → ((base delta : List C) → stands s base delta → stands made (base ++ delta) [])
-      → Walked ((k, s) ∷ rest) (ToFork parent child) (Forked parent child) → Walked rest (ToFork parent child') (Forked parent child')
-  fork_step apart o parent child child' k s made rest puts forks =
-      walk_step apart o k s rest (ToFork parent child) (ToFork parent child') (Forked parent child) (Forked parent child')
-      (λ t base delta held. puts.here (base ++ delta) [] (forks base delta (when_some plain effect_of stands (kept_at parent k) s base delta (sym t.0) held).0))
-      (λ q t is h. (h.0, puts.elsewhere q is ∙ h.1))
-      (λ q is h. subst (λ (x : Option S). Forks plain effect_of stands (kept_at parent q) x) (sym (puts.elsewhere q is)) h)
-
-  pub fork_start : IsLawful plain effect_of stands → (parent : List (Cell × S)) → IsStrictlySortedBy cell_order (keys_of parent) → Walked parent (ToFork parent []) (Forked parent [])
-  fork_start laws parent sorted = (
-    sorted,
-    λ (q : Cell). all_to_do parent q (Forked parent [] q) (ToFork parent [] q)
-        (λ none base delta held. idle_forks laws base delta (when_none plain effect_of stands (kept_at parent q) base delta (sym none) held))
-        (λ s some. (some, refl)),
-  )
-
-  abbrev pub ToJoin : List (Cell × S) → List (Cell × S) → List (Cell × S) → Cell → S → Type 0
-  ToJoin old child new q s = (kept_at child q ≡ Some s) × (kept_at new q ≡ kept_at old q)
-
   abbrev pub Joined : List (Cell × S) → List (Cell × S) → List (Cell × S) → Cell → Type 0
   Joined old child new q = Joins plain effect_of stands (kept_at old q) (kept_at child q) (kept_at new q)
-
-  pub join_step : Apart → IsTotalOrder cell_order → (old child new new' : List (Cell × S)) (k : Cell) (s made : S) (rest : List (Cell × S))
-      → Puts plain effect_of stands k made new new'
-      → ((base delta before after : List C) → CellStands plain effect_of stands (kept_at new k) base delta → stands s before after → stands made base (delta ++ after))
-      → Walked ((k, s) ∷ rest) (ToJoin old child new) (Joined old child new) → Walked rest (ToJoin old child new') (Joined old child new')
-  join_step apart o old child new new' k s made rest puts joins =
-      walk_step apart o k s rest (ToJoin old child new) (ToJoin old child new') (Joined old child new) (Joined old child new')
-      (λ t base delta before after held theirs. puts.here base (delta ++ after) (joins base delta before after
-      (subst (λ (x : Option S). CellStands plain effect_of stands x base delta) (sym t.1) held)
-      (when_some plain effect_of stands (kept_at child k) s before after (sym t.0) theirs).0))
-      (λ q t is h. (h.0, puts.elsewhere q is ∙ h.1))
-      (λ q is h. subst (λ (x : Option S). Joins plain effect_of stands (kept_at old q) (kept_at child q) x) (sym (puts.elsewhere q is)) h)
-
-  pub join_start : IsLawful plain effect_of stands → (old child new : List (Cell × S)) → ((q : Cell) → kept_at new q ≡ kept_at old q) → IsStrictlySortedBy cell_order (keys_of child)
-      → Walked child (ToJoin old child new) (Joined old child new)
-  join_start laws old child new same sorted = (
-    sorted,
-    λ (q : Cell). all_to_do child q (Joined old child new q) (ToJoin old child new q)
-        (λ none base delta before after held theirs.
-        stands_idle laws (kept_at new q) base delta before after
-        (subst (λ (x : Option S). CellStands plain effect_of stands x base delta) (sym (same q)) held)
-        (when_none plain effect_of stands (kept_at child q) before after (sym none) theirs))
-        (λ s some. (some, same q)),
-  )

@@ -6,18 +6,22 @@ ghost use Rattle.cloud_base.specs.Sorted.{Lists};
 ghost use Rattle.cloud_base.specs.declared.key.Key.{Key};
 ghost use Rattle.fj_array.specs.declared.cell.Cell.{Cell};
 ghost use Rattle.fj_array.specs.declared.effect.CellEffect.{CellEffect};
-ghost use Rattle.fj_array.specs.Cells.{At, of_cell, is_id, has_id, without};
+ghost use Rattle.std.specs.Ordering.{is_lt};
+ghost use Rattle.fj_array.specs.Cells.{At, cell_order, of_cell, is_id, has_id, without};
 ghost use Rattle.fj_array.specs.Effects.{cell_of, effect_order};
 ghost use Rattle.fj_array.specs.Grids.{kept_at, IsIdle, CellStands, GridStands, Puts};
 ghost use Rattle.fj_array.specs.Grids.{AgreeElsewhere};
+ghost use Rattle.fj_array.specs.Touched.{IsUntouched, IsHolder, HasNone};
+ghost use Rattle.shared_map.specs.Entries.{Updates};
+ghost use Rattle.std.specs.Prelude.{MatchOption};
 
 use crate::cell::Cell;
 use crate::effect::{CellEffect, EffectList};
 use crate::laws::cell_orders;
 use cloud_base::{Key, Keys, Memory, Sequence, TupleList, Uid};
 use fj_core::{Effect, ForkJoin};
+use shared_map::SharedMap;
 use std::alloc::Global;
-use std::collections::BTreeMap;
 use std::marker::Model;
 
 /// The cells of all properties of one cell type.
@@ -25,9 +29,13 @@ use std::marker::Model;
 /// It stands for a log after a log, as each of its cells does for the changes of that cell. A cell
 /// with its default to which nothing was done isn't kept. After a refusal for memory a grid is as
 /// it was.
+///
+/// A fork shares what it doesn't change: it costs as many steps as cells were touched.
 #[derive(Drop)]
 pub struct Grid<C: ForkJoin> {
-    cells: BTreeMap<Cell, C>,
+    cells: SharedMap<Cell, C>,
+    // The cells to which something was done since the fork are among these.
+    touched: SharedMap<Cell, ()>,
     alloc: Global,
 }
 
@@ -37,7 +45,11 @@ impl<C: ForkJoin> Model for Grid<C> {
 
     ghost Value = { List (Cell × C) };
 
-    ghost view = { λ g. g.cells.entries };
+    ghost use Rattle.fj_array.specs.Touched.{IsTold};
+
+    ghost view = { λ g. g.cells };
+
+    ghost invariant = { λ g. IsTold C.effect_of C.stands g.cells g.touched };
 }
 
 // Whether a cell has its default and nothing was done to it.
@@ -62,7 +74,8 @@ impl<C: ForkJoin> Grid<C> {
         ensures stands { GridStands C.plain C.effect_of C.stands result [] [] }
     {
         Grid {
-            cells: BTreeMap::new(alloc),
+            cells: SharedMap::new(alloc),
+            touched: SharedMap::new(alloc),
             alloc,
         }
     }
@@ -104,11 +117,35 @@ impl<C: ForkJoin> Grid<C> {
         ensures ok { OnOk result (Puts C.plain C.effect_of C.stands cell state self.old self.new) }
         ensures err { OnErr result (self.new ≡ self.old) }
     {
+        cell_orders();
         if is_idle(&state) {
             self.cells.remove(&cell);
-        } else {
-            self.cells.insert(cell, state)?;
+            return Ok(());
         }
+        match state.effect() {
+            None => self.keep_untouched(cell, state),
+            Some(_) => self.keep_touched(cell, state),
+        }
+    }
+
+    fn keep_touched(&mut self, cell: Cell, state: C) -> Result<(), Memory>
+        ensures ok { OnOk result (Updates cell_order self.old self.new cell (Some state)) }
+        ensures err { OnErr result (self.new ≡ self.old) }
+    {
+        cell_orders();
+        self.touched.insert(cell.copied(), ())?;
+        self.cells.insert(cell, state)?;
+        Ok(())
+    }
+
+    fn keep_untouched(&mut self, cell: Cell, state: C) -> Result<(), Memory>
+        requires { IsUntouched C.effect_of C.stands state }
+        ensures ok { OnOk result (Updates cell_order self.old self.new cell (Some state)) }
+        ensures err { OnErr result (self.new ≡ self.old) }
+    {
+        cell_orders();
+        self.cells.insert(cell.copied(), state)?;
+        self.touched.remove(&cell);
         Ok(())
     }
 
@@ -177,12 +214,13 @@ impl<C: ForkJoin> Grid<C> {
             → GridStands C.plain C.effect_of C.stands self.now base delta
             → GridStands C.plain C.effect_of C.stands copy base delta) }
     {
-        cell_orders();
-        let mut copy: Grid<C> = Grid::new(self.alloc);
-        for (cell, state) in &self.cells {
-            copy.cells.insert(cell.copied(), state.copied())?;
-        }
-        Ok(copy)
+        let cells = self.cells.fork()?;
+        let touched = self.touched.fork()?;
+        Ok(Grid {
+            cells,
+            touched,
+            alloc: self.alloc,
+        })
     }
 
     /// A grid that begins where this one is.
@@ -192,8 +230,12 @@ impl<C: ForkJoin> Grid<C> {
             → GridStands C.plain C.effect_of C.stands child (base ++ delta) []) }
     {
         cell_orders();
-        let mut child: Grid<C> = Grid::new(self.alloc);
-        for (cell, state) in &self.cells {
+        self.touched.in_order();
+        let mut child = self.copied()?;
+        for (cell, _) in self.touched.iter() {
+            let Some(state) = self.cells.get(cell) else {
+                continue;
+            };
             child.keep(cell.copied(), state.fork())?;
         }
         Ok(child)
@@ -218,13 +260,32 @@ impl<C: ForkJoin> Grid<C> {
             → GridStands C.plain C.effect_of C.stands joined base (delta ++ after)) }
     {
         cell_orders();
+        child.touched.in_order();
         let mut joined = self.copied()?;
-        for (cell, theirs) in &child.cells {
+        for (cell, _) in child.touched.iter() {
+            let Some(theirs) = child.cells.get(cell) else {
+                continue;
+            };
             let mut state = joined.state_of(cell);
             state.join(theirs);
             joined.keep(cell.copied(), state)?;
         }
         Ok(joined)
+    }
+
+    // The first cell from one on that has the id among its keys.
+    fn holder(&self, id: Uid, from: &Cell) -> Option<Cell>
+        ensures { MatchOption result (HasNone id self.now from.now)
+            (λ cell. IsHolder id self.now from.now cell) }
+    {
+        cell_orders();
+        self.cells.in_order();
+        for (cell, _) in self.cells.iter_from(from) {
+            if has_id(&cell.keys, id) {
+                return Some(cell.copied());
+            }
+        }
+        None
     }
 
     /// Drops each cell that has the id among its keys.
@@ -235,7 +296,11 @@ impl<C: ForkJoin> Grid<C> {
             (without id base) (without id delta) }
     {
         cell_orders();
-        self.cells.retain(|cell, _| !has_id(&cell.keys, id));
+        let mut at = first_of(0);
+        while let Some(cell) = self.holder(id, &at) {
+            self.cells.remove(&cell);
+            at = cell;
+        }
     }
 
     /// The key lists of a property whose value isn't the default, in order.
@@ -247,8 +312,12 @@ impl<C: ForkJoin> Grid<C> {
             ≢ C.plain [])) }
     {
         cell_orders();
+        self.cells.in_order();
         let mut list = Sequence::new(self.alloc);
-        for (cell, state) in &self.cells {
+        for (cell, state) in self.cells.iter_from(&first_of(property)) {
+            if cell.property > property {
+                return Ok(list);
+            }
             if cell.property == property && is_set(state) {
                 list.push(cell.keys.copied())?;
             }
@@ -266,7 +335,11 @@ impl<C: ForkJoin> Grid<C> {
     {
         cell_orders();
         let mut list = Sequence::new(self.alloc);
-        for (cell, state) in &self.cells {
+        self.touched.in_order();
+        for (cell, _) in self.touched.iter() {
+            let Some(state) = self.cells.get(cell) else {
+                continue;
+            };
             if let Some(effect) = state.effect() {
                 list.push(CellEffect {
                     property: cell.property,
@@ -276,6 +349,16 @@ impl<C: ForkJoin> Grid<C> {
             }
         }
         Ok(list)
+    }
+}
+
+// The first of all cells that a property may have.
+fn first_of(property: u16) -> Cell
+    ensures { result ≡ record { property = property; keys = [] } }
+{
+    Cell {
+        property,
+        keys: Keys::empty(),
     }
 }
 

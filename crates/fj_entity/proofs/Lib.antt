@@ -1,5 +1,6 @@
 pub mod FateLemmas
-pub mod LinkLemmas
+pub mod GroupLemmas
+pub mod KeptLemmas
 pub mod ListLemmas
 pub mod RosterLemmas
 pub mod WalkLemmas

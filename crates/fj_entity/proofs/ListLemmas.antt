@@ -1,18 +1,17 @@
 -- What is listed of a roster, in the order of ids.
-use Rattle.std.proofs.Common.{◌≡◌, refl, sym, ◌∙◌, ap, subst, ℕ, Bool, true, false, cond, List, [], ◌∷◌, inl, inr, Option, Some, None}
-use Rattle.std.specs.Prelude.{Contains, IsTrue, MatchOption, not, ◌&&◌, ◌==◌}
+use Rattle.std.proofs.Common.{◌≡◌, refl, sym, ◌∙◌, ap, subst, ℕ, Bool, true, false, cond, List, [], ◌∷◌, map, inl, inr, Option, Some, None}
+use Rattle.std.specs.Prelude.{⊤, ◌⊎◌, Contains, IsTrue, MatchOption, not, filter, ◌&&◌, ◌==◌}
 use Rattle.std.specs.Option.{option_map}
-use Rattle.std.specs.List.{filter_map, cons_option, AllByRecursion}
+use Rattle.std.specs.List.{AllByRecursion}
 use Rattle.std.specs.List.Sorted.{IsStrictlySortedBy}
 use Rattle.std.specs.Map.{keys_of}
-use Rattle.std.specs.BTreeMap.{is_at}
-use Rattle.std.specs.Cmp.{eq_by_cmp_equiv}
-use Rattle.std.specs.declared.cmp.Ordering.{Ordering}
-use Rattle.std.specs.declared.cmp.Ordering.TheVariants.{Less}
+use Rattle.std.specs.declared.cmp.Ordering.TheVariants.{Less, Equal}
 use Rattle.std.proofs.lemmas.Bool.{cases_Bool, false≢true}
-use Rattle.std.proofs.lemmas.Map.{lookup-none}
-use Rattle.std.proofs.lemmas.Map.Entries.{none_past_head}
-use Rattle.std.proofs.lemmas.Map.Keys.{IsDistinct-from_sorted, sorted_head, sorted_tail}
+use borrow.Author.Tests.{eqb-true}
+use Rattle.std.proofs.lemmas.Cmp.{tied_itself}
+use Rattle.std.proofs.lemmas.List.Elements.{All-from_recursion, All-contains}
+use Rattle.std.proofs.lemmas.List.Kept.{IsStrictlySortedBy-filter}
+use Rattle.std.proofs.lemmas.Map.Keys.{sorted_head, sorted_tail}
 use Rattle.cloud_base.specs.Values.{Id}
 use Rattle.cloud_base.specs.Order.{id_order, same_id}
 use Rattle.cloud_base.specs.Log.{Creation, creation, is_of}
@@ -21,103 +20,26 @@ use Rattle.cloud_base.specs.Answer.{is_listed}
 use Rattle.cloud_base.specs.Sorted.{Lists}
 use Rattle.cloud_base.specs.declared.update.Update.{Update}
 use Rattle.cloud_base.proofs.OrderLemmas.{id_order_total, same_id_decides}
-use Rattle.cloud_base.proofs.SortedLemmas.{here, there, none_in, split_member}
-use Rattle.fj_entity.specs.declared.fate.Fate.{Fate}
+use Rattle.cloud_base.proofs.SortedLemmas.{here, there, none_in, split_member, kept, kept_member, kept_passes}
+use Rattle.fj_entity.specs.declared.birth.Birth.{Birth}
 use Rattle.fj_entity.specs.declared.created.Created.{Created}
-use Rattle.fj_entity.specs.declared.fate.Fate.TheVariants.{Living, Dead}
-use Rattle.fj_entity.specs.Fates.{living, fate_at, fate_in, is_gone, is_member, is_living, member, dead_one, created_by, created_one, created_at, found}
+use Rattle.fj_entity.specs.declared.groups.Group.TheVariants.{Entity}
+use Rattle.fj_entity.specs.declared.groups.Member.{Member}
+use Rattle.fj_entity.specs.Fates.{Fate, Living, Dead, living, fate_at, fate_in, is_gone, is_member, is_living, created_at, found}
+use Rattle.fj_entity.specs.Groups.{IsIn}
+use Rattle.fj_entity.specs.Kept.{birth_at, fates_of, created_entry, AreGrouped}
 use Rattle.fj_entity.specs.Rosters.{RosterStands, Ascends, IsLiving, created_order}
 use Rattle.fj_entity.proofs.FateLemmas.{gone_means, living_means}
+use Rattle.fj_entity.proofs.GroupLemmas.{mapped, mapped_from}
+use Rattle.fj_entity.proofs.KeptLemmas.{birth_lives, living_birth, living_in}
 use Rattle.fj_entity.proofs.WalkLemmas.{living_made, made_living}
 
--- a list of items, each made of an id and what is kept of it, is in the order of the ids
-module _ {A : Type 0} (order : A → A → Ordering) (id_of : A → Id) (by_id : (a b : A) → order a b ≡ id_order (id_of a) (id_of b))
-    (item : Id × Fate → Option A) (own : (e : Id × Fate) (a : A) → item e ≡ Some a → id_of a ≡ e.0) where
-  -- an item is one of what is kept of its id
-  abbrev pub IsOne : List (Id × Fate) → A → Type 0
-  IsOne fates a = (f : Fate) × (fate_at fates (id_of a) ≡ Some f) × (item (id_of a, f) ≡ Some a)
+-- ---- the ids of an entity
 
-  past : (k : Id) (f : Fate) (rest : List (Id × Fate)) (x : Id) → Ascends ((k, f) ∷ rest) → same_id x k ≡ true → fate_at rest x ≡ None
-  past k f rest x sorted is =
-      lookup-none (is_at (id_order x)) rest (none_past_head (eq_by_cmp_equiv id_order_total) x (k, f) rest (IsDistinct-from_sorted id_order (keys_of ((k, f) ∷ rest)) sorted) is)
-
-  further : (k : Id) (f : Fate) (rest : List (Id × Fate)) (a : A) → Ascends ((k, f) ∷ rest) → IsOne rest a → IsOne ((k, f) ∷ rest) a
-  further k f rest a sorted w = elim (cases_Bool (same_id (id_of a) k)) [
-    | inl t ↦ let clash : None ≡ Some w.0 = sym (past k f rest (id_of a) sorted t) ∙ w.1 in cc
-    | inr n ↦ (w.0, ap (λ b. cond b (Some f) (fate_at rest (id_of a))) n ∙ w.1, w.2)
-  ]
-
-  only_at : (k : Id) (f : Fate) (rest : List (Id × Fate)) (a : A) → Ascends ((k, f) ∷ rest) → (Contains (filter_map item rest) a → IsOne rest a)
-      → (o : Option A) → item (k, f) ≡ o → Contains (cons_option o (filter_map item rest)) a → IsOne ((k, f) ∷ rest) a
-  only_at k f rest a sorted ih None e m = further k f rest a sorted (ih m)
-  only_at k f rest a sorted ih (Some b) e m = elim (split_member b a (filter_map item rest) m) [
-    | inr n ↦ further k f rest a sorted (ih n)
-    | inl same ↦
-        let is : item (k, f) ≡ Some a = e ∙ ap Some same in
-        let at : id_of a ≡ k = own (k, f) a is in
-        (f, ap (λ b. cond b (Some f) (fate_at rest (id_of a))) ((same_id_decides (id_of a) k).1 at), ap (λ (x : Id). item (x, f)) at ∙ is)
-  ]
-
-  only : (fates : List (Id × Fate)) (a : A) → Ascends fates → Contains (filter_map item fates) a → IsOne fates a
-  only [] a sorted m = absurd (none_in a m)
-  only ((k, f) ∷ rest) a sorted m = only_at k f rest a sorted (only rest a (sorted_tail id_order k (keys_of rest) sorted)) (item (k, f)) refl m
-
-  every_at : (k : Id) (f : Fate) (rest : List (Id × Fate)) (a : A) → (IsOne rest a → Contains (filter_map item rest) a)
-      → (o : Option A) → item (k, f) ≡ o → (b : Bool) → same_id (id_of a) k ≡ b → (g : Fate) → cond b (Some f) (fate_at rest (id_of a)) ≡ Some g → item (id_of a, g) ≡ Some a
-      → Contains (cons_option o (filter_map item rest)) a
-  every_at k f rest a ih None e true t g i is =
-      let same : f ≡ g = cc in
-      let clash : None ≡ Some a = sym e ∙ (λ j. item (sym ((same_id_decides (id_of a) k).0 t) j, same j)) ∙ is in cc
-  every_at k f rest a ih (Some b) e true t g i is =
-      let same : f ≡ g = cc in
-      let one : Some b ≡ Some a = sym e ∙ (λ j. item (sym ((same_id_decides (id_of a) k).0 t) j, same j)) ∙ is in
-      let eq : b ≡ a = cc in
-      subst (Contains (b ∷ filter_map item rest)) eq (here b (filter_map item rest))
-  every_at k f rest a ih None e false t g i is = ih (g, i, is)
-  every_at k f rest a ih (Some b) e false t g i is = there b a (filter_map item rest) (ih (g, i, is))
-
-  every : (fates : List (Id × Fate)) (a : A) → IsOne fates a → Contains (filter_map item fates) a
-  every [] a w = let clash : None ≡ Some w.0 = w.1 in cc
-  every ((k, f) ∷ rest) a w = every_at k f rest a (every rest a) (item (k, f)) refl (same_id (id_of a) k) refl w.0 w.1 w.2
-
-  above : (k : Id) (rest : List (Id × Fate)) (a : A) → id_of a ≡ k → AllByRecursion (λ y. id_order k y ≡ Less) (keys_of rest) → AllByRecursion (λ b. order a b ≡ Less) (filter_map item rest)
-  above k [] a is h = tt
-  above k ((j, g) ∷ rest) a is h = at (item (j, g)) refl (above k rest a is h.1)
-    where
-      at : (o : Option A) → item (j, g) ≡ o → AllByRecursion (λ b. order a b ≡ Less) (filter_map item rest) → AllByRecursion (λ b. order a b ≡ Less) (cons_option o (filter_map item rest))
-      at None e r = r
-      at (Some b) e r = (by_id a b ∙ (λ i. id_order (is i) (own (j, g) b e i)) ∙ h.0, r)
-
-  ascends : (fates : List (Id × Fate)) → Ascends fates → IsStrictlySortedBy order (filter_map item fates)
-  unfolding IsStrictlySortedBy
-  ascends [] s = tt
-  ascends ((k, f) ∷ rest) s = at (item (k, f)) refl (ascends rest (sorted_tail id_order k (keys_of rest) s))
-    where
-      at : (o : Option A) → item (k, f) ≡ o → IsStrictlySortedBy order (filter_map item rest) → IsStrictlySortedBy order (cons_option o (filter_map item rest))
-      at None e r = r
-      at (Some a) e r = (above k rest a (own (k, f) a e) (sorted_head id_order k (keys_of rest) s), r)
-
-  pub lists_items : (fates : List (Id × Fate)) → Ascends fates → Lists order (filter_map item fates) (IsOne fates)
-  lists_items fates s = record { ascends = ascends fates s; only = λ a m. only fates a s m; every = λ a w. every fates a w }
-
--- ---- what the lists say of a log
-
-lists_as : {A : Type 0} {order : A → A → Ordering} (xs ys : List A) (P Q : A → Type 0) → ys ≡ xs → ((a : A) → P a → Q a) → ((a : A) → Q a → P a) → Lists order xs P → Lists order ys Q
-lists_as {order = order} xs ys P Q e f g l = subst (λ (zs : List _). Lists order zs Q) (sym e) (record { ascends = l.ascends; only = λ a m. f a (l.only a m); every = λ a q. l.every a (g a q) })
-
-pick : (b : Bool) (x y : Id) → cond b (Some x) None ≡ Some y → (b ≡ true) × (y ≡ x)
-pick true x y e = (refl, (cc))
-pick false x y e = cc
-
-is_member_at : ℕ → Option Fate → Bool
-is_member_at entity None = false
-is_member_at entity (Some f) = is_member entity f
-
-listed_in : (log : List Update) (entity : ℕ) (id : Id) → is_member_at entity (fate_in log id) ≡ is_listed log entity id
-unfolding is_member_at
+listed_in : (log : List Update) (entity : ℕ) (id : Id) → is_member entity (fate_in log id) ≡ is_listed log entity id
 listed_in log entity id = at (is_dead log id) (creation id log)
   where
-    at : (b : Bool) (o : Option Creation) → is_member_at entity (cond b (Some Dead) (option_map living o)) ≡ (is_of entity o && not b)
+    at : (b : Bool) (o : Option Creation) → is_member entity (cond b (Some Dead) (option_map living o)) ≡ (is_of entity o && not b)
     at true None = refl
     at true (Some c) = sym (never (c.entity == entity))
       where
@@ -131,57 +53,132 @@ listed_in log entity id = at (is_dead log id) (creation id log)
         ever true = refl
         ever false = refl
 
-pub lists_members : (fates : List (Id × Fate)) (log : List Update) (entity : ℕ) (ids : List Id) → Ascends fates → RosterStands fates log → ids ≡ filter_map (member entity) fates
+member_living : (entity : ℕ) (o : Option Fate) → is_member entity o ≡ true → (e : ℕ) × (ks : _) × (o ≡ Some (Living e ks)) × (e ≡ entity)
+member_living entity None h = absurd (false≢true h)
+member_living entity (Some Dead) h = absurd (false≢true h)
+member_living entity (Some (Living e ks)) h = (e, ks, refl, eqb-true e entity h)
+
+pub lists_members : (known : List (Id × ⊤)) (births : List (Id × Birth)) (members : List Member) (log : List Update) (entity : ℕ) (listed ids : List Id) → AreGrouped known births members
+    → RosterStands (fates_of known births) log → Lists id_order listed (IsIn members (Entity entity)) → ids ≡ filter (λ id. is_member entity (fate_at (fates_of known births) id)) listed
     → Lists id_order ids (λ id. IsTrue (is_listed log entity id))
-unfolding is_member_at
-lists_members fates log entity ids sorted h e =
-    lists_as (filter_map (member entity) fates) ids (IsOne id_order (λ x. x) (λ a b. refl) (member entity) own fates) (λ id. IsTrue (is_listed log entity id)) e
-    (λ a w. sym (listed_in log entity a) ∙ ap (is_member_at entity) (sym (h.kept a) ∙ w.1) ∙ (pick (is_member entity w.0) a a w.2).0)
-    (λ a t. back a (fate_at fates a) refl (ap (is_member_at entity) (h.kept a) ∙ listed_in log entity a ∙ t))
-    (lists_items id_order (λ x. x) (λ a b. refl) (member entity) own fates sorted)
+lists_members known births members log entity listed ids grouped h lists e = subst (λ (l : List Id). Lists id_order l (λ id. IsTrue (is_listed log entity id))) (sym e) (record {
+  ascends = IsStrictlySortedBy-filter id_order test listed lists.ascends;
+  only = λ x m. sym (means x) ∙ kept_passes test listed x m;
+  every = λ x t.
+      let w = member_living entity (fate_at fates x) (means x ∙ t) in
+      kept test listed x (lists.every x (living_in known births members grouped x w.0 w.1 (Entity entity) w.2 (sym w.3))) (means x ∙ t);
+})
   where
-    own : (e : Id × Fate) (a : Id) → member entity e ≡ Some a → a ≡ e.0
-    own e a is = (pick (is_member entity e.1) e.0 a is).1
+    fates : List (Id × Fate)
+    fates = fates_of known births
 
-    back : (a : Id) (o : Option Fate) → fate_at fates a ≡ o → is_member_at entity o ≡ true → (f : Fate) × (fate_at fates a ≡ Some f) × (member entity (a, f) ≡ Some a)
-    back a None k t = absurd (false≢true t)
-    back a (Some f) k t = (f, k, ap (λ b. cond b (Some a) None) t)
+    test : Id → Bool
+    test id = is_member entity (fate_at fates id)
 
-pub lists_gone : (fates : List (Id × Fate)) (log : List Update) (ids : List Id) → Ascends fates → RosterStands fates log → ids ≡ filter_map dead_one fates → Lists id_order ids (λ id. is_dead log id ≡ true)
-lists_gone fates log ids sorted h e =
-    lists_as (filter_map dead_one fates) ids (IsOne id_order (λ x. x) (λ a b. refl) dead_one own fates) (λ id. is_dead log id ≡ true) e
-    (λ a w. sym (gone_means fates log a h) ∙ ap is_gone w.1 ∙ (pick (is_gone (Some w.0)) a a w.2).0)
-    (λ a t. back a (fate_at fates a) refl (gone_means fates log a h ∙ t))
-    (lists_items id_order (λ x. x) (λ a b. refl) dead_one own fates sorted)
+    means : (x : Id) → test x ≡ is_listed log entity x
+    means x = ap (is_member entity) (h.kept x) ∙ listed_in log entity x
+
+-- ---- the dead
+
+kept_key : (fates : List (Id × Fate)) (x : Id) → Contains (keys_of fates) x → (f : Fate) × (fate_at fates x ≡ Some f)
+kept_key [] x m = absurd (none_in x m)
+kept_key (e ∷ fates) x m = at (kept_key fates x) (same_id x e.0) refl (split_member e.0 x (keys_of fates) m)
   where
-    own : (e : Id × Fate) (a : Id) → dead_one e ≡ Some a → a ≡ e.0
-    own e a is = (pick (is_gone (Some e.1)) e.0 a is).1
+    at : (Contains (keys_of fates) x → (f : Fate) × (fate_at fates x ≡ Some f)) → (b : Bool) → same_id x e.0 ≡ b → (e.0 ≡ x) ⊎ Contains (keys_of fates) x → (f : Fate) × (cond b (Some e.1) (fate_at fates x) ≡ Some f)
+    at ih true t s = (e.1, refl)
+    at ih false f (inl p) = absurd (false≢true (sym f ∙ (same_id_decides x e.0).1 (sym p)))
+    at ih false f (inr n) = ih n
 
-    back : (a : Id) (o : Option Fate) → fate_at fates a ≡ o → is_gone o ≡ true → (f : Fate) × (fate_at fates a ≡ Some f) × (dead_one (a, f) ≡ Some a)
-    back a None k t = absurd (false≢true t)
-    back a (Some f) k t = (f, k, ap (λ b. cond b (Some a) None) t)
-
-pub lists_created : (fates : List (Id × Fate)) (log : List Update) (list : List Created) → Ascends fates → RosterStands fates log → list ≡ filter_map created_one fates → Lists created_order list (IsLiving log)
-lists_created fates log list sorted h e =
-    lists_as (filter_map created_one fates) list (IsOne created_order (λ c. c.id) (λ a b. refl) created_one own fates) (IsLiving log) e
-    (λ a w. forward a w.0 (sym (h.kept a.id) ∙ w.1) w.2)
-    (λ a l. (Living a.entity a.keys, h.kept a.id ∙ made_living log a.id (record { entity = a.entity; keys = a.keys }) l.0 l.1, refl))
-    (lists_items created_order (λ c. c.id) (λ a b. refl) created_one own fates sorted)
+key_kept : (fates : List (Id × Fate)) (x : Id) (f : Fate) → fate_at fates x ≡ Some f → Contains (keys_of fates) x
+key_kept [] x f h = cc
+key_kept (e ∷ fates) x f h = at (key_kept fates x f) (same_id x e.0) refl h
   where
-    own : (e : Id × Fate) (a : Created) → created_one e ≡ Some a → a.id ≡ e.0
-    own e a is = at e.1 is
-      where
-        at : (f : Fate) → created_by e.0 f ≡ Some a → a.id ≡ e.0
-        at Dead k = cc
-        at (Living en ks) k = cc
+    at : (fate_at fates x ≡ Some f → Contains (keys_of fates) x) → (b : Bool) → same_id x e.0 ≡ b → cond b (Some e.1) (fate_at fates x) ≡ Some f → Contains (e.0 ∷ keys_of fates) x
+    at ih true t k = subst (Contains (e.0 ∷ keys_of fates)) (sym ((same_id_decides x e.0).0 t)) (here e.0 (keys_of fates))
+    at ih false g k = there e.0 x (keys_of fates) (ih k)
 
-    forward : (a : Created) (f : Fate) → fate_in log a.id ≡ Some f → created_by a.id f ≡ Some a → IsLiving log a
-    forward a Dead k is = cc
-    forward a (Living en ks) k is =
-        let m = living_made log a.id en ks k in
-        let p : en ≡ a.entity = cc in
-        let q : ks ≡ a.keys = cc in
-        (m.1 ∙ ap Some (λ i. record { entity = (m.3 ∙ p) i; keys = (m.2 ∙ q) i }), m.4)
+gone_dead : (o : Option Fate) → is_gone o ≡ true → o ≡ Some Dead
+gone_dead None h = absurd (false≢true h)
+gone_dead (Some Dead) h = refl
+gone_dead (Some (Living e ks)) h = absurd (false≢true h)
+
+not_living : (f : Fate) → not (is_living (Some f)) ≡ true → is_gone (Some f) ≡ true
+not_living Dead h = refl
+not_living (Living e ks) h = h
+
+pub lists_gone : (fates : List (Id × Fate)) (log : List Update) (ids : List Id) → Ascends fates → RosterStands fates log → ids ≡ filter (λ id. not (is_living (fate_at fates id))) (keys_of fates)
+    → Lists id_order ids (λ id. is_dead log id ≡ true)
+lists_gone fates log ids sorted h e = subst (λ (l : List Id). Lists id_order l (λ id. is_dead log id ≡ true)) (sym e) (record {
+  ascends = IsStrictlySortedBy-filter id_order test (keys_of fates) sorted;
+  only = λ x m.
+      let w = kept_key fates x (kept_member test (keys_of fates) x m) in
+      let out : not (is_living (Some w.0)) ≡ true = sym (ap (λ o. not (is_living o)) w.1) ∙ kept_passes test (keys_of fates) x m in
+      sym (gone_means fates log x h) ∙ ap is_gone w.1 ∙ not_living w.0 out;
+  every = λ x d.
+      let is : fate_at fates x ≡ Some Dead = gone_dead (fate_at fates x) (gone_means fates log x h ∙ d) in
+      kept test (keys_of fates) x (key_kept fates x Dead is) (ap (λ o. not (is_living o)) is);
+})
+  where
+    test : Id → Bool
+    test id = not (is_living (fate_at fates id))
+
+-- ---- what lives
+
+-- what a living id was created with
+living_of : (fates : List (Id × Fate)) (log : List Update) (id : Id) (e : ℕ) (ks : _) → RosterStands fates log → fate_at fates id ≡ Some (Living e ks) → IsLiving log (record { id = id; entity = e; keys = ks })
+living_of fates log id e ks h k = let m = living_made log id e ks (sym (h.kept id) ∙ k) in (m.1 ∙ ap Some (λ i. record { entity = m.3 i; keys = m.2 i }), m.4)
+
+entry_found : (births : List (Id × Birth)) (e : Id × Birth) → IsStrictlySortedBy id_order (keys_of births) → Contains births e → birth_at births e.0 ≡ Some e.1
+entry_found [] e sorted m = absurd (none_in e m)
+entry_found (f ∷ births) e sorted m = at (entry_found births e (sorted_tail id_order f.0 (keys_of births) sorted)) (same_id e.0 f.0) refl (split_member f e births m)
+  where
+    later : Contains births e → same_id e.0 f.0 ≡ false
+    later n = elim (cases_Bool (same_id e.0 f.0)) [
+      | inr g ↦ g
+      | inl t ↦
+          let less : id_order f.0 e.0 ≡ Less = All-contains (λ y. id_order f.0 y ≡ Less) (keys_of births) e.0 (All-from_recursion (λ y. id_order f.0 y ≡ Less) (keys_of births) (sorted_head id_order f.0 (keys_of births) sorted)) (mapped (λ (z : Id × Birth). z.0) births e n) in
+          let tied : id_order f.0 e.0 ≡ Equal = ap (id_order f.0) ((same_id_decides e.0 f.0).0 t) ∙ tied_itself id_order_total f.0 in
+          cc
+    ]
+
+    at : (Contains births e → birth_at births e.0 ≡ Some e.1) → (b : Bool) → same_id e.0 f.0 ≡ b → (f ≡ e) ⊎ Contains births e → cond b (Some f.1) (birth_at births e.0) ≡ Some e.1
+    at ih true t (inl p) = ap (λ (z : Id × Birth). Some z.1) p
+    at ih true t (inr n) = absurd (false≢true (sym (later n) ∙ t))
+    at ih false g (inl p) = absurd (false≢true (sym g ∙ (same_id_decides e.0 f.0).1 (ap (λ (z : Id × Birth). z.0) (sym p))))
+    at ih false g (inr n) = ih n
+
+entry_there : (births : List (Id × Birth)) (x : Id) (b : Birth) → birth_at births x ≡ Some b → Contains births (x, b)
+entry_there [] x b h = cc
+entry_there (f ∷ births) x b h = at (entry_there births x b) (same_id x f.0) refl h
+  where
+    at : (birth_at births x ≡ Some b → Contains births (x, b)) → (c : Bool) → same_id x f.0 ≡ c → cond c (Some f.1) (birth_at births x) ≡ Some b → Contains (f ∷ births) (x, b)
+    at ih true t k =
+        let p : f.0 ≡ x = sym ((same_id_decides x f.0).0 t) in
+        let q : f.1 ≡ b = cc in
+        let same : f ≡ (x, b) = λ i. (p i, q i) in
+        subst (Contains (f ∷ births)) same (here f births)
+    at ih false g k = there f (x, b) births (ih k)
+
+created_above : (id : Id) (births : List (Id × Birth)) (c : Created) → c.id ≡ id → AllByRecursion (λ y. id_order id y ≡ Less) (keys_of births) → AllByRecursion (λ b. created_order c b ≡ Less) (map created_entry births)
+created_above id [] c e h = tt
+created_above id (f ∷ births) c e h = (ap (λ z. id_order z f.0) e ∙ h.0, created_above id births c e h.1)
+
+created_ascends : (births : List (Id × Birth)) → IsStrictlySortedBy id_order (keys_of births) → IsStrictlySortedBy created_order (map created_entry births)
+unfolding IsStrictlySortedBy
+created_ascends [] s = tt
+created_ascends (f ∷ births) s = (created_above f.0 births (created_entry f) refl (sorted_head id_order f.0 (keys_of births) s), created_ascends births (sorted_tail id_order f.0 (keys_of births) s))
+
+pub lists_created : (known : List (Id × ⊤)) (births : List (Id × Birth)) (members : List Member) (log : List Update) (list : List Created) → AreGrouped known births members
+    → RosterStands (fates_of known births) log → IsStrictlySortedBy id_order (keys_of births) → list ≡ map created_entry births → Lists created_order list (IsLiving log)
+lists_created known births members log list grouped h sorted e = subst (λ (l : List Created). Lists created_order l (IsLiving log)) (sym e) (record {
+  ascends = created_ascends births sorted;
+  only = λ c m.
+      let w = mapped_from created_entry births c m in
+      subst (IsLiving log) w.2 (living_of (fates_of known births) log w.0.0 w.0.1.entity w.0.1.keys h (birth_lives known births members grouped w.0.0 w.0.1 (entry_found births w.0 sorted w.1)));
+  every = λ c l.
+      let lives = h.kept c.id ∙ made_living log c.id (record { entity = c.entity; keys = c.keys }) l.0 l.1 in
+      mapped created_entry births (c.id, record { entity = c.entity; keys = c.keys }) (entry_there births c.id (record { entity = c.entity; keys = c.keys }) (living_birth known births c.id c.entity c.keys lives));
+})
 
 -- what was created with is found exactly where an id lives
 pub found_means : (fates : List (Id × Fate)) (log : List Update) (id : Id) (o : Option Created) → RosterStands fates log → o ≡ found fates id → MatchOption o (is_alive log id ≡ false) (λ c. (c.id ≡ id) × IsLiving log c)
@@ -190,4 +187,4 @@ found_means fates log id o h e = subst (λ p. MatchOption p (is_alive log id ≡
     at : (p : Option Fate) → fate_at fates id ≡ p → MatchOption (created_at id p) (is_alive log id ≡ false) (λ c. (c.id ≡ id) × IsLiving log c)
     at None k = sym (living_means fates log id h) ∙ ap is_living k
     at (Some Dead) k = sym (living_means fates log id h) ∙ ap is_living k
-    at (Some (Living en ks)) k = let m = living_made log id en ks (sym (h.kept id) ∙ k) in (refl, (m.1 ∙ ap Some (λ i. record { entity = m.3 i; keys = m.2 i }), m.4))
+    at (Some (Living en ks)) k = (refl, living_of fates log id en ks h k)

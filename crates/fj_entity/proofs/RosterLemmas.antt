@@ -4,15 +4,11 @@ use Rattle.std.specs.Prelude.{◌⊎◌, Contains, Result, IfOk}
 use Rattle.std.specs.declared.result.Result.TheVariants.{Ok, Err}
 use Rattle.std.specs.Option.{option_map}
 use Rattle.std.specs.List.Sorted.{IsStrictlySortedBy}
-use Rattle.std.specs.Map.{lookup}
-use Rattle.std.specs.BTreeMap.{is_at}
-use Rattle.std.specs.Ordering.{is_eq}
-use Rattle.std.specs.declared.cmp.Ordering.{Ordering}
 use Rattle.std.proofs.lemmas.Bool.{cases_Bool, false≢true}
 use Rattle.std.proofs.lemmas.Bool.Decides.{same_from_decides}
 use Rattle.cloud_base.specs.Values.{Id}
 use Rattle.cloud_base.specs.Order.{id_order, same_id}
-use Rattle.cloud_base.specs.Log.{creation, ids_of}
+use Rattle.cloud_base.specs.Log.{creation}
 use Rattle.cloud_base.specs.Dead.{Dead as IsDead, is_dead, has_dead}
 use Rattle.cloud_base.specs.Leads.{LeadsIn, Leads}
 use Rattle.cloud_base.specs.Sorted.{Lists}
@@ -22,77 +18,9 @@ use Rattle.cloud_base.specs.declared.update.Update.TheVariants.{Create, Delete}
 use Rattle.cloud_base.proofs.OrderLemmas.{same_id_decides, same_id_itself}
 use Rattle.cloud_base.proofs.SortedLemmas.{none_in}
 use Rattle.cloud_base.proofs.DeadLemmas.{is_dead_decides, some_member, member_some, made, dead_stays, dead_led, delete_kills, dead_after_delete, create_kills, dead_after_create, created_then, created_itself, deleted_creates}
-use Rattle.fj_entity.specs.declared.fate.Fate.{Fate}
-use Rattle.fj_entity.specs.declared.fate.Fate.TheVariants.{Living, Dead}
-use Rattle.fj_entity.specs.Fates.{living, fate_in, fate_at, buried, is_among}
-use Rattle.fj_entity.specs.Links.{children_at, Keeps}
-use Rattle.fj_entity.specs.Rosters.{RosterStands, AreLinked, IsDoomed, IsNewlyDead, Kills}
+use Rattle.fj_entity.specs.Fates.{Fate, Living, Dead, living, fate_in, fate_at, marked, buried, is_among}
+use Rattle.fj_entity.specs.Rosters.{RosterStands, IsDoomed, IsNewlyDead, Kills}
 use Rattle.fj_entity.proofs.WalkLemmas.{made_living}
-
--- ---- the index of children
-
--- fewer live
-pub linked_fewer : (old new : List (Id × Fate)) (links : List (Id × List Id)) → ((x : Id) (e : ℕ) (ks : List Key) → fate_at new x ≡ Some (Living e ks) → fate_at old x ≡ Some (Living e ks)) → AreLinked old links → AreLinked new links
-linked_fewer old new links fewer h = record { listed = λ p x e ks k m. h.listed p x e ks (fewer x e ks k) m }
-
--- more are listed
-pub linked_more : (fates : List (Id × Fate)) (old new : List (Id × List Id)) → Keeps old new → AreLinked fates old → AreLinked fates new
-linked_more fates old new keeps h = record { listed = λ p x e ks k m. keeps p x (h.listed p x e ks k m) }
-
--- one more lives
-pub linked_put : (id : Id) (e : ℕ) (ks : List Key) (old new : List (Id × Fate)) (links : List (Id × List Id)) → ((x : Id) → fate_at new x ≡ cond (same_id id x) (Some (Living e ks)) (fate_at old x))
-    → ((p : Id) → Contains (ids_of ks) p → Contains (children_at links p) id) → AreLinked old links → AreLinked new links
-linked_put id e ks old new links put listed h = record { listed = λ p x e' ks' k m. at p x e' ks' m (same_id id x) refl (sym (put x) ∙ k) }
-  where
-    at : (p x : Id) (e' : ℕ) (ks' : List Key) → Contains (ids_of ks') p → (b : Bool) → same_id id x ≡ b → cond b (Some (Living e ks)) (fate_at old x) ≡ Some (Living e' ks') → Contains (children_at links p) x
-    at p x e' ks' m true t k =
-        let same : ks ≡ ks' = cc in
-        subst (Contains (children_at links p)) ((same_id_decides id x).0 t) (listed p (subst (λ (l : List Key). Contains (ids_of l) p) (sym same) m))
-    at p x e' ks' m false f k = h.listed p x e' ks' k m
-
--- ---- what an insertion leaves, by an order
-
-abbrev pub PutAt : Id → Fate → List (Id × Fate) → List (Id × Fate) → (Id → Id → Ordering) → Type 0
-PutAt id fate old new order = (q : Id) → lookup (is_at (order q)) new ≡ cond (is_eq (order id q)) (Some fate) (lookup (is_at (order q)) old)
-
-pub put_at : (order : Id → Id → Ordering) → ((a b : Id) → order a b ≡ id_order a b) → (id : Id) (fate : Fate) (old new : List (Id × Fate)) → PutAt id fate old new order → PutAt id fate old new id_order
-put_at order ids id fate old new put = subst (PutAt id fate old new) (λ i a b. ids a b i) put
-
-pub dead_fewer : (id : Id) (old new : List (Id × Fate)) → PutAt id Dead old new id_order → (x : Id) (e : ℕ) (ks : List Key) → fate_at new x ≡ Some (Living e ks) → fate_at old x ≡ Some (Living e ks)
-dead_fewer id old new put x e ks k = at (same_id id x) (sym (put x) ∙ k)
-  where
-    at : (b : Bool) → cond b (Some Dead) (fate_at old x) ≡ Some (Living e ks) → fate_at old x ≡ Some (Living e ks)
-    at true f = cc
-    at false f = f
-
--- an id that was found is buried
-pub buries : (order : Id → Id → Ordering) → ((a b : Id) → order a b ≡ id_order a b) → (id : Id) (was : Fate) (old new : List (Id × Fate)) → lookup (is_at (order id)) old ≡ Some was
-    → PutAt id Dead old new order → (x : Id) → fate_at new x ≡ buried (same_id id x) (fate_at old x)
-buries order ids id was old new found put x = put_at order ids id Dead old new put x ∙ at (same_id id x) refl
-  where
-    at : (b : Bool) → same_id id x ≡ b → cond b (Some Dead) (fate_at old x) ≡ buried b (fate_at old x)
-    at true t = sym (ap (buried true) (ap (fate_at old) (sym ((same_id_decides id x).0 t)) ∙ (λ i. lookup (λ (k : Id). is_eq (sym (ids id k) i)) old) ∙ found))
-    at false f = refl
-
--- an id that isn't kept has none to bury
-pub buries_none : (order : Id → Id → Ordering) → ((a b : Id) → order a b ≡ id_order a b) → (id : Id) (old new : List (Id × Fate)) → lookup (is_at (order id)) old ≡ None
-    → new ≡ old → (x : Id) → fate_at new x ≡ buried (same_id id x) (fate_at old x)
-buries_none order ids id old new found same x = ap (λ (l : List (Id × Fate)). fate_at l x) same ∙ at (same_id id x) refl
-  where
-    none : same_id id x ≡ true → fate_at old x ≡ None
-    none t = ap (fate_at old) (sym ((same_id_decides id x).0 t)) ∙ (λ i. lookup (λ (k : Id). is_eq (sym (ids id k) i)) old) ∙ found
-
-    at : (b : Bool) → same_id id x ≡ b → fate_at old x ≡ buried b (fate_at old x)
-    at true t = none t ∙ sym (ap (buried true) (none t))
-    at false f = refl
-
-pub buried_fewer : (test : Id → Bool) (old new : List (Id × Fate)) → ((x : Id) → fate_at new x ≡ buried (test x) (fate_at old x)) → (x : Id) (e : ℕ) (ks : List Key) → fate_at new x ≡ Some (Living e ks) → fate_at old x ≡ Some (Living e ks)
-buried_fewer test old new h x e ks k = at (test x) (fate_at old x) (sym (h x) ∙ k)
-  where
-    at : (b : Bool) (o : Option Fate) → buried b o ≡ Some (Living e ks) → o ≡ Some (Living e ks)
-    at true None f = f
-    at true (Some g) f = cc
-    at false o f = f
 
 -- ---- one more is buried
 
@@ -159,16 +87,16 @@ not_among x ids out = elim (cases_Bool (is_among x ids)) [
 
 -- the roster in which the doomed are dead stands for the log after
 pub kills_stands : (log after : List Update) (root : Id) (old mid new : List (Id × Fate)) (ids : List Id) → Kills log after root → RosterStands old log → Lists id_order ids (IsDoomed log root)
-    → ((x : Id) → fate_at mid x ≡ cond (same_id root x) (Some Dead) (fate_at old x)) → ((x : Id) → fate_at new x ≡ buried (is_among x ids) (fate_at mid x)) → RosterStands new after
+    → ((x : Id) → fate_at mid x ≡ marked (same_id root x) (fate_at old x)) → ((x : Id) → fate_at new x ≡ buried (is_among x ids) (fate_at mid x)) → RosterStands new after
 kills_stands log after root old mid new ids kills h lists marks dead = record { kept = λ x. at x (is_dead after x) refl }
   where
     -- what is dead or doomed dies
     dies : (x : Id) → is_dead log x ≡ true → fate_at new x ≡ Some Dead
     dies x d =
-        let gone : fate_at mid x ≡ Some Dead = marks x ∙ ap (cond (same_id root x) (Some Dead)) (h.kept x ∙ dead_fate log x d) ∙ either (same_id root x) in
+        let gone : fate_at mid x ≡ Some Dead = marks x ∙ ap (marked (same_id root x)) (h.kept x ∙ dead_fate log x d) ∙ either (same_id root x) in
         dead x ∙ ap (buried (is_among x ids)) gone ∙ still (is_among x ids)
       where
-        either : (b : Bool) → cond b (Some Dead) (Some Dead) ≡ Some Dead
+        either : (b : Bool) → marked b (Some Dead) ≡ Some Dead
         either true = refl
         either false = refl
 
@@ -180,15 +108,21 @@ kills_stands log after root old mid new ids kills h lists marks dead = record { 
     kept x l live = by l.0 l.1
       where
         by : (n : ℕ) → LeadsIn log n x root → (f : Fate) × (fate_at mid x ≡ Some f)
-        by zero e = (Dead, marks x ∙ ap (λ b. cond b (Some Dead) (fate_at old x)) ((same_id_decides root x).1 (sym e)))
+        by zero e =
+            let m = some_marked (fate_at old x) in
+            (m.0, marks x ∙ ap (λ b. marked b (fate_at old x)) ((same_id_decides root x).1 (sym e)) ∙ m.1)
+          where
+            some_marked : (o : Option Fate) → (f : Fate) × (marked true o ≡ Some f)
+            some_marked None = (Dead, refl)
+            some_marked (Some f) = (f, refl)
         by (suc n) p =
             let w = made (creation x log) p.0 p.1 in
             let was : fate_at old x ≡ Some (living w.0) = h.kept x ∙ made_living log x w.0 w.1 live in
-            either (living w.0) (same_id root x) (marks x ∙ ap (cond (same_id root x) (Some Dead)) was)
+            (living w.0, marks x ∙ ap (marked (same_id root x)) was ∙ either (living w.0) (same_id root x))
           where
-            either : (f : Fate) (b : Bool) → fate_at mid x ≡ cond b (Some Dead) (Some f) → (g : Fate) × (fate_at mid x ≡ Some g)
-            either f true e = (Dead, e)
-            either f false e = (f, e)
+            either : (f : Fate) (b : Bool) → marked b (Some f) ≡ Some f
+            either f true = refl
+            either f false = refl
 
     at : (x : Id) (b : Bool) → is_dead after x ≡ b → fate_at new x ≡ fate_in after x
     at x true d =
@@ -206,7 +140,7 @@ kills_stands log after root old mid new ids kills h lists marks dead = record { 
         let live : is_dead log x ≡ false = elim (cases_Bool (is_dead log x)) [ inr f ↦ f | inl t ↦ absurd (false≢true (sym d ∙ kills.were x t)) ] in
         let out : Contains ids x → ⊥ = λ m. false≢true (sym d ∙ kills.led x (lists.only x m).0) in
         let other : same_id root x ≡ false = elim (cases_Bool (same_id root x)) [ inr f ↦ f | inl t ↦ absurd (false≢true (sym d ∙ kills.led x (0, sym ((same_id_decides root x).0 t)))) ] in
-        dead x ∙ ap (λ b. buried b (fate_at mid x)) (not_among x ids out) ∙ marks x ∙ ap (λ b. cond b (Some Dead) (fate_at old x)) other ∙ h.kept x ∙ live_fate log after x live d (kills.made x d)
+        dead x ∙ ap (λ b. buried b (fate_at mid x)) (not_among x ids out) ∙ marks x ∙ ap (λ b. marked b (fate_at old x)) other ∙ h.kept x ∙ live_fate log after x live d (kills.made x d)
 
 -- ---- the updates that kill
 

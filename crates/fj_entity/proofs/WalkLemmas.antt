@@ -21,11 +21,8 @@ use Rattle.cloud_base.specs.declared.update.Update.{Update}
 use Rattle.cloud_base.proofs.OrderLemmas.{id_order_total, id_same, same_id_decides, same_id_itself}
 use Rattle.cloud_base.proofs.SortedLemmas.{here, there, none_in, split_member, inserted, inserted_from, stays}
 use Rattle.cloud_base.proofs.DeadLemmas.{is_dead_decides, some_member, member_some, dead_more, leads_more, made}
-use Rattle.fj_entity.specs.declared.fate.Fate.{Fate}
-use Rattle.fj_entity.specs.declared.fate.Fate.TheVariants.{Living, Dead}
-use Rattle.fj_entity.specs.Fates.{living, fate_in, fate_at, has_ref, is_child_by}
-use Rattle.fj_entity.specs.Links.{children_at}
-use Rattle.fj_entity.specs.Rosters.{RosterStands, AreLinked, IsDoomed}
+use Rattle.fj_entity.specs.Fates.{Fate, Living, Dead, living, fate_in, fate_at, has_ref, is_child_by}
+use Rattle.fj_entity.specs.Rosters.{RosterStands, IsDoomed}
 use Rattle.fj_entity.specs.Walks.{IsChild, Reaches, others}
 
 -- ---- keys
@@ -54,14 +51,10 @@ found_ref id (Ref other ∷ keys) h = elim (split_member other id (ids_of keys) 
 
 -- ---- children
 
-child_some : (parent : Id) (o : Option Fate) → is_child_by parent o ≡ true → (entity : ℕ) × (keys : List Key) × (o ≡ Some (Living entity keys)) × Contains (ids_of keys) parent
+pub child_some : (parent : Id) (o : Option Fate) → is_child_by parent o ≡ true → (entity : ℕ) × (keys : List Key) × (o ≡ Some (Living entity keys)) × Contains (ids_of keys) parent
 child_some parent None h = absurd (false≢true h)
 child_some parent (Some Dead) h = absurd (false≢true h)
 child_some parent (Some (Living e ks)) h = (e, ks, refl, ref_found parent ks h)
-
--- each child is listed
-pub child_listed : (fates : List (Id × Fate)) (links : List (Id × List Id)) (parent x : Id) → AreLinked fates links → IsChild fates parent x → Contains (children_at links parent) x
-child_listed fates links parent x linked h = let w = child_some parent (fate_at fates x) h in linked.listed parent x w.0 w.1 w.2 w.3
 
 pub living_made : (log : List Update) (x : Id) (e : ℕ) (ks : List Key) → fate_in log x ≡ Some (Living e ks) → (c : Creation) × (creation x log ≡ Some c) × (c.keys ≡ ks) × (c.entity ≡ e) × (is_dead log x ≡ false)
 living_made log x e ks h = at (is_dead log x) refl (creation x log) refl h
@@ -204,14 +197,14 @@ seen_more seen child x m = elim (Contains-append_cases seen (child ∷ []) x m) 
 ]
 
 -- each child was listed
-pub reach_all : (fates : List (Id × Fate)) (id : Id) (links : List (Id × List Id)) (dying pending dying' pending' : List Id) → AreLinked fates links
-    → Reaches fates id (Contains (children_at links id)) dying pending dying' pending' → Reaches fates id (IsChild fates id) dying pending dying' pending'
-reach_all fates id links dying pending dying' pending' linked h = record {
+pub reach_all : (fates : List (Id × Fate)) (id : Id) (listed dying pending dying' pending' : List Id) → ((x : Id) → IsChild fates id x → Contains listed x)
+    → Reaches fates id (Contains listed) dying pending dying' pending' → Reaches fates id (IsChild fates id) dying pending dying' pending'
+reach_all fates id listed dying pending dying' pending' every h = record {
   dying_stay = h.dying_stay;
   pending_stay = h.pending_stay;
   only = h.only;
   pends = h.pends;
-  every = λ x s k. h.every x (child_listed fates links id x linked k) k;
+  every = λ x s k. h.every x (every x k) k;
   smaller = h.smaller;
 }
 

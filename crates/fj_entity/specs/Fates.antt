@@ -13,8 +13,11 @@ use Rattle.cloud_base.specs.declared.key.Key.TheVariants.{Int, Text, Ref}
 use Rattle.cloud_base.specs.declared.update.Update.{Update}
 use Rattle.cloud_base.specs.declared.update.Update.TheVariants.{Create, Delete}
 use Rattle.fj_entity.specs.declared.created.Created.{Created}
-use Rattle.fj_entity.specs.declared.fate.Fate.{Fate}
-use Rattle.fj_entity.specs.declared.fate.Fate.TheVariants.{Living, Dead}
+
+-- what became of an id: it lives, with the entity and the keys that it was created with, or is dead; a dead id need not be created
+pub data Fate : Type 0 where
+  Living : ℕ → List Key → Fate
+  Dead : Fate
 
 -- an id that lives has what its first creation gave it
 abbrev pub living : Creation → Fate
@@ -39,33 +42,27 @@ is_living (Some Dead) = false
 is_living (Some (Living entity keys)) = true
 is_living None = false
 
-abbrev pub is_member : ℕ → Fate → Bool
-is_member entity Dead = false
-is_member entity (Living e keys) = e == entity
-
--- an id of an entity, where it is one
-abbrev pub member : ℕ → Id × Fate → Option Id
-member entity e = if is_member entity e.1 then Some e.0 else None
-
--- a dead id, where it is one
-abbrev pub dead_one : Id × Fate → Option Id
-dead_one e = if is_gone (Some e.1) then Some e.0 else None
+-- whether an id lives and is of an entity
+abbrev pub is_member : ℕ → Option Fate → Bool
+is_member entity (Some Dead) = false
+is_member entity (Some (Living e keys)) = e == entity
+is_member entity None = false
 
 -- an id with what it was created with, where it lives
-abbrev pub created_by : Id → Fate → Option Created
-created_by id Dead = None
-created_by id (Living entity keys) = Some (record { id = id; entity = entity; keys = keys })
-
-abbrev pub created_one : Id × Fate → Option Created
-created_one e = created_by e.0 e.1
-
 abbrev pub created_at : Id → Option Fate → Option Created
 created_at id None = None
-created_at id (Some fate) = created_by id fate
+created_at id (Some Dead) = None
+created_at id (Some (Living entity keys)) = Some (record { id = id; entity = entity; keys = keys })
 
 -- what an id that lives was created with
 abbrev pub found : List (Id × Fate) → Id → Option Created
 found fates id = created_at id (fate_at fates id)
+
+-- what is kept of an id that is to die: it is dead, unless something is kept already
+abbrev pub marked : Bool → Option Fate → Option Fate
+marked false o = o
+marked true None = Some Dead
+marked true (Some fate) = Some fate
 
 -- what is kept of an id that dies, where it is kept
 abbrev pub buried : Bool → Option Fate → Option Fate
@@ -119,3 +116,7 @@ module _ where
   pub example_kept : (is_child_by customer (fate_in shop order) ≡ true) × (has_gone ((customer, Dead) ∷ []) (Int (pos 4) ∷ Ref customer ∷ []) ≡ true) × (has_gone ((customer, Dead) ∷ []) (Ref order ∷ []) ≡ false)
   unfolding is_dead
   example_kept = (refl, refl, refl)
+
+  -- an id that is to die and isn't kept is dead at once, and one that lives when it is buried
+  pub example_dying : (marked true None ≡ Some Dead) × (marked true (Some (Living 1 [])) ≡ Some (Living 1 [])) × (buried true (Some (Living 1 [])) ≡ Some Dead)
+  example_dying = (refl, refl, refl)

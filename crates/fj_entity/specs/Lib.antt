@@ -1,4 +1,5 @@
 pub mod Fates
-pub mod Links
+pub mod Groups
+pub mod Kept
 pub mod Rosters
 pub mod Walks

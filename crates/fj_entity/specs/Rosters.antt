@@ -1,24 +1,20 @@
 -- What a roster stands for.
-use Rattle.std.specs.Prelude.{◌≡◌, ◌⊎◌, refl, ℕ, true, false, List, [], ◌∷◌, ◌++◌, Some, Contains}
+use Rattle.std.specs.Prelude.{◌≡◌, ◌⊎◌, refl, true, false, List, [], ◌∷◌, ◌++◌, Some}
 use Rattle.std.specs.declared.cmp.Ordering.{Ordering}
 use Rattle.std.specs.declared.cmp.Ordering.TheVariants.{Less}
 use Rattle.std.specs.List.Sorted.{IsStrictlySortedBy}
 use Rattle.std.specs.Map.{keys_of}
 use Rattle.cloud_base.specs.Values.{Id}
 use Rattle.cloud_base.specs.Order.{id_order}
-use Rattle.cloud_base.specs.Log.{creation, ids_of}
+use Rattle.cloud_base.specs.Log.{creation}
 use Rattle.cloud_base.specs.Dead.{is_dead}
 use Rattle.cloud_base.specs.Leads.{Leads}
-use Rattle.cloud_base.specs.declared.key.Key.{Key}
 use Rattle.cloud_base.specs.declared.key.Key.TheVariants.{Ref}
 use Rattle.cloud_base.specs.declared.update.Update.{Update}
 use Rattle.cloud_base.specs.declared.update.Update.TheVariants.{Create, Delete}
 use Rattle.std.proofs.lemmas.Bool.{false≢true}
 use Rattle.fj_entity.specs.declared.created.Created.{Created}
-use Rattle.fj_entity.specs.declared.fate.Fate.{Fate}
-use Rattle.fj_entity.specs.declared.fate.Fate.TheVariants.{Living}
-use Rattle.fj_entity.specs.Fates.{fate_at, fate_in}
-use Rattle.fj_entity.specs.Links.{children_at}
+use Rattle.fj_entity.specs.Fates.{Fate, fate_at, fate_in}
 
 -- a roster stands for a log where it keeps of each id what becomes of it in the log
 pub record RosterStands (fates : List (Id × Fate)) (log : List Update) : Type 0 where
@@ -50,10 +46,6 @@ pub record Kills (log after : List Update) (root : Id) : Type 0 where
   pub led : (id : Id) → Leads log id root → is_dead after id ≡ true
   pub only : (id : Id) → is_dead after id ≡ true → (is_dead log id ≡ true) ⊎ Leads log id root
   pub made : (id : Id) → is_dead after id ≡ false → creation id after ≡ creation id log
-
--- each id that lives is listed at each id among its keys
-pub record AreLinked (fates : List (Id × Fate)) (links : List (Id × List Id)) : Type 0 where
-  pub listed : (parent child : Id) (entity : ℕ) (keys : List Key) → fate_at fates child ≡ Some (Living entity keys) → Contains (ids_of keys) parent → Contains (children_at links parent) child
 
 module _ where
   abbrev first : Created

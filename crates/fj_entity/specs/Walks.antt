@@ -4,9 +4,7 @@ use Rattle.std.specs.List.{list_any}
 use Rattle.cloud_base.specs.Values.{Id}
 use Rattle.cloud_base.specs.Order.{same_id}
 use Rattle.cloud_base.specs.declared.key.Key.TheVariants.{Ref}
-use Rattle.fj_entity.specs.declared.fate.Fate.{Fate}
-use Rattle.fj_entity.specs.declared.fate.Fate.TheVariants.{Living}
-use Rattle.fj_entity.specs.Fates.{fate_at, is_child_by}
+use Rattle.fj_entity.specs.Fates.{Fate, Living, fate_at, is_child_by}
 
 -- the second id lives and has the first among its keys
 abbrev pub IsChild : List (Id × Fate) → Id → Id → Type 0

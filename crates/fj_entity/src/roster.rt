@@ -1,8 +1,10 @@
 // The ids that live, and the dead ones.
-ghost use Rattle.std.specs.Prelude.{◌≡◌, ℕ, List, [], ◌∷◌, ◌++◌, Contains, Some, None, true, false};
-ghost use Rattle.std.specs.Prelude.{if◌then◌else◌, MatchOption, IsTrue, IfOk, OnOk, OnErr};
-ghost use Rattle.std.specs.List.{list_any, filter_map};
+ghost use Rattle.std.specs.Prelude.{◌≡◌, ℕ, List, [], ◌∷◌, ◌++◌, Some, None, true, false, not};
+ghost use Rattle.std.specs.Prelude.{if◌then◌else◌, MatchOption, IsTrue, IfOk, OnOk, OnErr, is_some};
+ghost use Rattle.std.specs.Prelude.{filter, map};
+ghost use Rattle.std.specs.Option.{option_copied};
 ghost use Rattle.std.specs.List.Sorted.{IsStrictlySortedBy};
+ghost use Rattle.std.specs.Map.{keys_of};
 ghost use Rattle.cloud_base.specs.Values.{Id};
 ghost use Rattle.cloud_base.specs.Order.{id_order, same_id};
 ghost use Rattle.cloud_base.specs.Log.{creation};
@@ -12,45 +14,50 @@ ghost use Rattle.cloud_base.specs.Sorted.{Lists};
 ghost use Rattle.cloud_base.specs.declared.key.Key.{Key};
 ghost use Rattle.cloud_base.specs.declared.update.Update.{Update};
 ghost use Rattle.cloud_base.specs.declared.update.Update.TheVariants as Change;
-ghost use Rattle.fj_entity.specs.Fates.{fate_at, is_gone, is_living, is_gone_key, has_gone, is_ref};
-ghost use Rattle.fj_entity.specs.Fates.{has_ref, is_child_by, member, dead_one, created_one, found};
-ghost use Rattle.fj_entity.specs.Fates.{buried, is_among};
-ghost use Rattle.fj_entity.specs.declared.fate.Fate.TheVariants.{Living, Dead};
+ghost use Rattle.fj_entity.specs.Fates.{Living, fate_at, is_gone, is_living, is_member};
+ghost use Rattle.fj_entity.specs.Fates.{is_gone_key, has_gone, is_ref, has_ref, is_child_by};
+ghost use Rattle.fj_entity.specs.Fates.{found, marked, buried, is_among};
+ghost use Rattle.fj_entity.specs.Groups.{KeepsOthers};
+ghost use Rattle.fj_entity.specs.Kept.{birth_in, created_entry};
 ghost use Rattle.fj_entity.specs.Rosters.{RosterStands, Ascends, IsDoomed, IsNewlyDead, IsLiving};
 ghost use Rattle.fj_entity.specs.Rosters.{Kills, created_order};
 ghost use Rattle.fj_entity.specs.Walks.{IsChild, Reaches};
 
+use crate::birth::Birth;
 use crate::created::{Created, CreatedList};
-use crate::fate::Fate;
-use crate::links::Links;
-use cloud_base::{IdList, Key, Keys, Memory, Sequence, Uid, derived_orders, total_orders};
+use crate::groups::{Group, Groups};
+use cloud_base::{IdList, Key, Keys, Memory, Sequence, Uid, derived_orders};
+use shared_map::SharedMap;
 use std::alloc::{AllocError, Global};
-use std::collections::{BTreeMap, BTreeSet};
+use std::collections::BTreeSet;
 use std::marker::Model;
 
 /// The ids that live, each with what it was created with, and the dead ids, closed under
 /// dependents: an id dies with each id among its keys.
 ///
 /// It stands for a log, as it keeps of each id what becomes of it in the log. After a refusal for
-/// memory a roster is as it was.
+/// memory a roster is as it was. Forks share what neither has changed.
 #[derive(Drop)]
 pub struct Roster {
-    fates: BTreeMap<Uid, Fate>,
-    links: Links,
+    // The ids that live, and the dead ones.
+    known: SharedMap<Uid, ()>,
+    // What each id that lives was created with.
+    births: SharedMap<Uid, Birth>,
+    groups: Groups,
     alloc: Global,
 }
 
 impl Model for Roster {
     ghost use Rattle.std.specs.Prelude.{List};
     ghost use Rattle.cloud_base.specs.Values.{Id};
-    ghost use Rattle.fj_entity.specs.declared.fate.Fate.{Fate};
-    ghost use Rattle.fj_entity.specs.Rosters.{AreLinked};
+    ghost use Rattle.fj_entity.specs.Fates.{Fate};
+    ghost use Rattle.fj_entity.specs.Kept.{fates_of, AreGrouped};
 
     ghost Value = { List (Id × Fate) };
 
-    ghost view = { λ r. r.fates.entries };
+    ghost view = { λ r. fates_of r.known r.births };
 
-    ghost invariant = { λ r. AreLinked r.fates.entries r.links };
+    ghost invariant = { λ r. AreGrouped r.known r.births r.groups };
 }
 
 fn is_ref(key: &Key, id: Uid) -> bool
@@ -79,45 +86,22 @@ fn ids_in(alloc: Global, set: &BTreeSet<Uid>) -> Result<IdList, Memory>
     Ok(Sequence::from_vec(ids))
 }
 
-// An id, where it lives and is of an entity.
-fn member(entity: u16, id: Uid, fate: &Fate) -> Option<Uid>
-    ensures { result ≡ member entity (id, fate.now) }
+// The ids that were created so, in order.
+fn created_of(alloc: Global, births: &SharedMap<Uid, Birth>) -> Result<Vec<Created>, AllocError>
+    ensures { IfOk result (λ list. list.items ≡ map created_entry births.now) }
 {
-    match fate {
-        Fate::Living(other, _) if *other == entity => Some(id),
-        _ => None,
-    }
+    births
+        .iter()
+        .map(|(id, birth)| birth.created(*id))
+        .collect(alloc)
 }
 
-fn bury_in(fates: &mut BTreeMap<Uid, Fate>, id: Uid)
-    ensures { (x : Id) → fate_at fates.new.entries x
-        ≡ buried (same_id id x) (fate_at fates.old.entries x) }
+// Takes an id that was created so out of its groups.
+fn leave_groups(groups: &mut Groups, id: Uid, birth: Option<&Birth>)
+    ensures { KeepsOthers id groups.old groups.new }
 {
-    derived_orders();
-    if let Some(fate) = fates.get_mut(&id) {
-        *fate = Fate::Dead;
-    }
-}
-
-fn dead_one(id: Uid, fate: &Fate) -> Option<Uid>
-    ensures { result ≡ dead_one (id, fate.now) }
-{
-    match fate {
-        Fate::Living(_, _) => None,
-        Fate::Dead => Some(id),
-    }
-}
-
-fn created_one(id: Uid, fate: &Fate) -> Option<Created>
-    ensures { result ≡ created_one (id, fate.now) }
-{
-    match fate {
-        Fate::Living(entity, keys) => Some(Created {
-            id,
-            entity: *entity,
-            keys: keys.copied(),
-        }),
-        Fate::Dead => None,
+    if let Some(birth) = birth {
+        groups.remove_all(id, birth.entity, &birth.keys);
     }
 }
 
@@ -128,24 +112,39 @@ impl Roster {
         ensures stands { RosterStands result [] }
     {
         Roster {
-            fates: BTreeMap::new(alloc),
-            links: Links::new(alloc),
+            known: SharedMap::new(alloc),
+            births: SharedMap::new(alloc),
+            groups: Groups::new(alloc),
             alloc,
         }
     }
 
-    fn is_gone(&self, id: Uid) -> bool
-        ensures { result ≡ is_gone (fate_at self.now id) }
+    // Whether an id lives or is dead.
+    fn is_known(&self, id: Uid) -> bool
+        ensures { result ≡ is_some (fate_at self.now id) }
     {
         derived_orders();
-        matches!(self.fates.get(&id), Some(Fate::Dead))
+        self.known.get(&id).is_some()
+    }
+
+    // What an id was created with, where it lives.
+    fn birth(&self, id: Uid) -> Option<&Birth>
+        ensures { option_copied result ≡ birth_in (fate_at self.now id) }
+    {
+        derived_orders();
+        self.births.get(&id)
     }
 
     fn is_living(&self, id: Uid) -> bool
         ensures { result ≡ is_living (fate_at self.now id) }
     {
-        derived_orders();
-        matches!(self.fates.get(&id), Some(Fate::Living(_, _)))
+        self.birth(id).is_some()
+    }
+
+    fn is_gone(&self, id: Uid) -> bool
+        ensures { result ≡ is_gone (fate_at self.now id) }
+    {
+        self.is_known(id) && !self.is_living(id)
     }
 
     fn is_gone_key(&self, key: &Key) -> bool
@@ -166,9 +165,8 @@ impl Roster {
     fn found(&self, id: Uid) -> Option<Created>
         ensures { result ≡ found self.now id }
     {
-        derived_orders();
-        match self.fates.get(&id) {
-            Some(fate) => created_one(id, fate),
+        match self.birth(id) {
+            Some(birth) => Some(birth.created(id)),
             None => None,
         }
     }
@@ -177,10 +175,19 @@ impl Roster {
     fn is_child(&self, id: Uid, parent: Uid) -> bool
         ensures { result ≡ is_child_by parent (fate_at self.now id) }
     {
-        derived_orders();
-        match self.fates.get(&id) {
-            Some(Fate::Living(_, keys)) => has_ref(keys, parent),
-            _ => false,
+        match self.birth(id) {
+            Some(birth) => has_ref(&birth.keys, parent),
+            None => false,
+        }
+    }
+
+    // Whether an id lives and is of an entity.
+    fn is_member(&self, entity: u16, id: Uid) -> bool
+        ensures { result ≡ is_member entity (fate_at self.now id) }
+    {
+        match self.birth(id) {
+            Some(birth) => birth.entity == entity,
+            None => false,
         }
     }
 
@@ -222,8 +229,9 @@ impl Roster {
         ensures { IfOk result (λ copy. copy ≡ self.now) }
     {
         Ok(Roster {
-            fates: self.fates.clone()?,
-            links: self.links.copy()?,
+            known: self.known.fork()?,
+            births: self.births.fork()?,
+            groups: self.groups.fork()?,
             alloc: self.alloc,
         })
     }
@@ -238,7 +246,8 @@ impl Roster {
         ensures { OnOk result (Reaches self.now id (IsChild self.now id)
             dying.old.keys pending.old.items dying.new.keys pending.new.items) }
     {
-        for child in self.links.children_of(id) {
+        let listed = self.groups.members(Group::Parent(id))?;
+        for child in listed.as_slice() {
             self.reach_one(*child, id, dying, pending)?;
         }
         Ok(())
@@ -303,22 +312,27 @@ impl Roster {
         self.dependents(id)
     }
 
-    fn mark_dead(&mut self, id: Uid) -> Result<(), Memory>
+    // An id that is to die is known.
+    fn mark(&mut self, id: Uid) -> Result<(), Memory>
         ensures ok { OnOk result ((x : Id) → fate_at self.new x
-            ≡ (if same_id id x then Some Dead else fate_at self.old x)) }
+            ≡ marked (same_id id x) (fate_at self.old x)) }
         ensures err { OnErr result (self.new ≡ self.old) }
     {
         derived_orders();
-        self.fates.insert(id, Fate::Dead)?;
+        if !self.is_known(id) {
+            self.known.insert(id, ())?;
+        }
         Ok(())
     }
 
-    // An id that is kept dies. It takes no memory.
+    // An id that is known dies. It takes no memory.
     fn bury(&mut self, id: Uid)
         ensures { (x : Id) → fate_at self.new x
             ≡ buried (same_id id x) (fate_at self.old x) }
     {
-        bury_in(&mut self.fates, id);
+        derived_orders();
+        leave_groups(&mut self.groups, id, self.births.get(&id));
+        self.births.remove(&id);
     }
 
     fn bury_all(&mut self, ids: &[Uid])
@@ -338,7 +352,7 @@ impl Roster {
         ensures err { OnErr result (self.new ≡ self.old) }
     {
         let died = self.dependents(root)?;
-        self.mark_dead(root)?;
+        self.mark(root)?;
         self.bury_all(died.as_slice());
         Ok(died)
     }
@@ -353,14 +367,21 @@ impl Roster {
         self.doom(id)
     }
 
+    // An id more lives.
     fn put(&mut self, id: Uid, entity: u16, keys: &Keys) -> Result<(), Memory>
+        requires { fate_at self.old id ≡ None }
         ensures ok { OnOk result ((x : Id) → fate_at self.new x
             ≡ (if same_id id x then Some (Living entity keys.now) else fate_at self.old x)) }
         ensures err { OnErr result (self.new ≡ self.old) }
     {
         derived_orders();
-        self.links.add_all(keys, id)?;
-        self.fates.insert(id, Fate::Living(entity, keys.copied()))?;
+        self.groups.add_all(id, entity, keys)?;
+        let keys = keys.copied();
+        self.births.insert(id, Birth { entity, keys })?;
+        if let Err(memory) = self.known.insert(id, ()) {
+            self.births.remove(&id);
+            return Err(memory.into());
+        }
         Ok(())
     }
 
@@ -374,7 +395,7 @@ impl Roster {
             (IsNewlyDead log (log ++ Change.Create id entity keys.now ∷ []))) }
         ensures err { OnErr result (self.new ≡ self.old) }
     {
-        if self.is_gone(id) {
+        if self.is_known(id) {
             Ok(Sequence::new(self.alloc))
         } else if self.has_gone(keys) {
             self.doom(id)
@@ -384,30 +405,26 @@ impl Roster {
         }
     }
 
-    fn members(&self, entity: u16) -> Result<Vec<Uid>, AllocError>
-        ensures { IfOk result (λ list. list.items ≡ filter_map (member entity) self.now) }
+    // Of some ids those that live and are of an entity.
+    fn members(&self, entity: u16, ids: &[Uid]) -> Result<Vec<Uid>, AllocError>
+        ensures { IfOk result (λ members.
+            members.items ≡ filter (λ id. is_member entity (fate_at self.now id)) ids.now) }
     {
-        self.fates
-            .iter()
-            .filter_map(|entry| member(entity, *entry.0, entry.1))
+        ids.iter()
+            .copied()
+            .filter(|id| self.is_member(entity, *id))
             .collect(self.alloc)
     }
 
-    fn dead_ids(&self) -> Result<Vec<Uid>, AllocError>
-        ensures { IfOk result (λ list. list.items ≡ filter_map dead_one self.now) }
+    // Of known ids those that don't live.
+    fn dead_among(&self, known: &SharedMap<Uid, ()>) -> Result<Vec<Uid>, AllocError>
+        ensures { IfOk result (λ ids. ids.items
+            ≡ filter (λ id. not (is_living (fate_at self.now id))) (keys_of known.now)) }
     {
-        self.fates
+        known
             .iter()
-            .filter_map(|entry| dead_one(*entry.0, entry.1))
-            .collect(self.alloc)
-    }
-
-    fn created_ids(&self) -> Result<Vec<Created>, AllocError>
-        ensures { IfOk result (λ list. list.items ≡ filter_map created_one self.now) }
-    {
-        self.fates
-            .iter()
-            .filter_map(|entry| created_one(*entry.0, entry.1))
+            .map(|entry| entry.0)
+            .filter(|id| !self.is_living(*id))
             .collect(self.alloc)
     }
 
@@ -415,16 +432,17 @@ impl Roster {
         ensures { Ascends self.now }
     {
         derived_orders();
-        let _count = self.fates.len();
+        self.known.in_order();
     }
 
-    /// The ids that were created for an entity and live, ascending. It goes through all ids.
+    /// The ids that were created for an entity and live, ascending. Others cost no step.
     pub fn all(&self, entity: u16) -> Result<IdList, Memory>
         ensures { IfOk result (λ ids. (log : List Update) → RosterStands self.now log
             → Lists id_order ids (λ id. IsTrue (is_listed log entity id))) }
     {
-        self.in_order();
-        Ok(Sequence::from_vec(self.members(entity)?))
+        let listed = self.groups.members(Group::Entity(entity))?;
+        let members = self.members(entity, listed.as_slice())?;
+        Ok(Sequence::from_vec(members))
     }
 
     /// The ids that live, with what they were created with, ascending.
@@ -432,8 +450,9 @@ impl Roster {
         ensures { IfOk result (λ list. (log : List Update) → RosterStands self.now log
             → Lists created_order list (IsLiving log)) }
     {
-        self.in_order();
-        Ok(Sequence::from_vec(self.created_ids()?))
+        derived_orders();
+        self.births.in_order();
+        Ok(Sequence::from_vec(created_of(self.alloc, &self.births)?))
     }
 
     /// The dead ids, ascending.
@@ -442,6 +461,6 @@ impl Roster {
             → Lists id_order ids (λ id. is_dead log id ≡ true)) }
     {
         self.in_order();
-        Ok(Sequence::from_vec(self.dead_ids()?))
+        Ok(Sequence::from_vec(self.dead_among(&self.known)?))
     }
 }

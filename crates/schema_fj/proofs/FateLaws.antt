@@ -21,9 +21,7 @@ use Rattle.cloud_base.proofs.DeadLemmas.{is_dead_decides, dead_from_chain, dead_
 use Rattle.fj_entity.specs.declared.created.Created.{Created}
 use Rattle.change_lists.specs.Effects.{IsBorn}
 use Rattle.schema_fj.specs.Told.{creates, deletes, SameFates}
-use Rattle.fj_entity.specs.declared.fate.Fate.{Fate}
-use Rattle.fj_entity.specs.declared.fate.Fate.TheVariants.{Dead as Gone}
-use Rattle.fj_entity.specs.Fates.{living, fate_in}
+use Rattle.fj_entity.specs.Fates.{Fate, Dead as Gone, living, fate_in}
 use Rattle.fj_entity.specs.Rosters.{RosterStands, created_order, IsNewlyDead}
 use Rattle.std.specs.Option.{option_map}
 use Rattle.cloud_base.proofs.DeadLemmas.{made, dead_stays, dead_more}

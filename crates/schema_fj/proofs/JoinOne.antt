@@ -29,7 +29,7 @@ use Rattle.fj_array.specs.declared.effect.CellEffect.{CellEffect}
 use Rattle.fj_array.specs.Cells.{At, of_cell, cell_order}
 use Rattle.fj_array.specs.Effects.{cell_of, effect_order}
 use Rattle.fj_array.specs.Grids.{GridStands}
-use Rattle.fj_entity.specs.declared.fate.Fate.{Fate}
+use Rattle.fj_entity.specs.Fates.{Fate}
 use Rattle.fj_entity.specs.Rosters.{RosterStands}
 use Rattle.fj_entity.proofs.FateLemmas.{has_gone_means}
 use Rattle.change_lists.specs.Effects.{effect_of as effect_in, IsDone}

@@ -35,8 +35,8 @@ use Rattle.fj_core.specs.TextCells.{text_plain, text_effect, TextStands}
 use Rattle.fj_array.specs.declared.cell.Cell.{Cell}
 use Rattle.fj_array.specs.Cells.{At, of_cell, same_cell, cell_order}
 use Rattle.fj_array.specs.Grids.{kept_at, GridStands, AgreeElsewhere}
+use Rattle.fj_entity.specs.Fates.{Fate}
 use Rattle.fj_entity.specs.declared.created.Created.{Created}
-use Rattle.fj_entity.specs.declared.fate.Fate.{Fate}
 use Rattle.fj_entity.specs.Rosters.{RosterStands, IsNewlyDead}
 use Rattle.change_lists.specs.declared.value.Content.{Content}
 use Rattle.change_lists.specs.declared.value.Content.TheVariants as content

@@ -36,9 +36,7 @@ use Rattle.fj_array.specs.Cells.{of_cell}
 use Rattle.fj_array.specs.Effects.{effect_order}
 use Rattle.fj_array.specs.Grids.{GridStands}
 use Rattle.fj_entity.specs.declared.created.Created.{Created}
-use Rattle.fj_entity.specs.declared.fate.Fate.{Fate}
-use Rattle.fj_entity.specs.declared.fate.Fate.TheVariants.{Living, Dead}
-use Rattle.fj_entity.specs.Fates.{fate_at, created_at, found}
+use Rattle.fj_entity.specs.Fates.{Fate, Living, Dead, fate_at, created_at, found}
 use Rattle.fj_entity.specs.Rosters.{RosterStands, IsLiving, created_order}
 use Rattle.fj_entity.proofs.WalkLemmas.{living_made, made_living}
 use Rattle.schema_fj.specs.Held.{Held}

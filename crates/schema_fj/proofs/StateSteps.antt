@@ -37,8 +37,7 @@ use Rattle.fj_core.specs.declared.text_cell.TextCell.{TextCell}
 use Rattle.fj_array.specs.declared.cell.Cell.{Cell as CellAt}
 use Rattle.fj_array.specs.Cells.{cell_order}
 use Rattle.fj_array.specs.Grids.{GridStands}
-use Rattle.fj_entity.specs.declared.fate.Fate.{Fate}
-use Rattle.fj_entity.specs.Fates.{fate_at, is_gone}
+use Rattle.fj_entity.specs.Fates.{Fate, fate_at, is_gone}
 use Rattle.fj_entity.specs.Rosters.{RosterStands, IsNewlyDead}
 use Rattle.fj_entity.proofs.FateLemmas.{gone_means}
 use Rattle.fj_entity.proofs.RosterLemmas.{creation_kills, creation_quiet, born_dead as of_dead}

@@ -14,9 +14,7 @@ use Rattle.fj_array.specs.declared.effect.CellEffect.{CellEffect}
 use Rattle.fj_array.specs.Cells.{At, of_cell, same_cell}
 use Rattle.fj_array.specs.Effects.{cell_of, effect_order}
 use Rattle.fj_array.specs.Grids.{GridStands}
-use Rattle.fj_entity.specs.declared.fate.Fate.{Fate}
-use Rattle.fj_entity.specs.declared.fate.Fate.TheVariants.{Dead}
-use Rattle.fj_entity.specs.Fates.{has_gone}
+use Rattle.fj_entity.specs.Fates.{Fate, Dead, has_gone}
 use Rattle.cloud_base.specs.declared.key.Key.TheVariants.{Ref}
 use Rattle.schema_fj.specs.Held.{Held}
 use Rattle.schema_fj.specs.Sets.{type_at}

@@ -323,13 +323,15 @@ impl State {
         ensures { IfOk result (λ copy. (schema : Schema) (base delta : List Update) →
             StateHolds schema self.now base delta → StateHolds schema copy base delta) }
     {
+        let born = copy_set(&self.born)?;
+        let died = copy_set(&self.died)?;
         Ok(State {
             types: self.types.copy(self.alloc)?,
+            roster: self.roster.fork()?,
             numbers: self.numbers.copied()?,
             texts: self.texts.copied()?,
-            roster: self.roster.fork()?,
-            born: copy_set(&self.born)?,
-            died: copy_set(&self.died)?,
+            born,
+            died,
             alloc: self.alloc,
         })
     }
@@ -409,6 +411,21 @@ impl State {
         Ok(change_of(self.alloc, created, dead, cells))
     }
 
+    // The state in which was done besides what a change tells.
+    fn joined(&self, change: &Change) -> Result<State, Memory>
+        ensures { IfOk result (λ joined. (schema : Schema) (base delta before after : List Update) →
+            StateStands schema self.now base delta → IsEffect schema before after change.now →
+            IsPart before (base ++ delta) → Fit schema (base ++ (delta ++ after)) →
+            StateStands schema joined base (delta ++ after)) }
+    {
+        cell_orders();
+        let mut joined = self.copied()?;
+        joined.create_all(change.created())?;
+        joined.delete_all(change.dead())?;
+        joined.join_cells(change.cells())?;
+        Ok(joined)
+    }
+
     /// Does what a change tells. What the teller began with is to be in the log that this state
     /// stands for, and that log followed by what the teller did is to be fit.
     pub fn join_change(&mut self, change: &Change) -> Result<(), Memory>
@@ -418,12 +435,7 @@ impl State {
             StateStands schema self.new base (delta ++ after)) }
         ensures err { OnErr result (self.new ≡ self.old) }
     {
-        cell_orders();
-        let mut next = self.copied()?;
-        next.create_all(change.created())?;
-        next.delete_all(change.dead())?;
-        next.join_cells(change.cells())?;
-        *self = next;
+        *self = self.joined(change)?;
         Ok(())
     }
 

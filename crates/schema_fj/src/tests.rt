@@ -1,5 +1,5 @@
 use crate::State;
-use change_lists::{CellValue, Content, Image};
+use change_lists::{CellValue, Change, Content, Image};
 use cloud_base::{
     Answer, CellChange, CellType, Entity, Key, KeyType, Keys, Name, Owner, Property, Query, Schema,
     Sequence, Text, Uid, Update,
@@ -40,54 +40,108 @@ fn shop(alloc: Global) -> Result<Schema, Fail> {
     })
 }
 
+fn customer() -> Uid {
+    Uid::new(1, 0)
+}
+
+fn order() -> Uid {
+    Uid::new(0, 7)
+}
+
+fn line() -> Uid {
+    Uid::new(1, 1)
+}
+
+fn late() -> Uid {
+    Uid::new(2, 0)
+}
+
+fn text(bytes: &[u8]) -> Text {
+    Text::new(bytes).unwrap_or(Text::empty())
+}
+
+fn set(property: u16, id: Uid, bytes: &[u8]) -> Update {
+    Update::Cell(property, by(id), CellChange::SetText(text(bytes)))
+}
+
 // A customer, its order and a line of that, each with a cell.
-fn filled(alloc: Global, ids: &[Uid; 3]) -> Result<State, Fail> {
-    let [customer, order, line] = *ids;
-    let mut state = State::fresh(alloc, &shop(alloc)?)?;
+fn server(alloc: Global) -> Result<State, Fail> {
+    let schema = shop(alloc)?;
+    let mut state = State::fresh(alloc, &schema)?;
     for update in [
-        Update::Create(customer, 0, Keys::empty()),
-        Update::Create(order, 1, by(customer)),
-        Update::Create(line, 2, by(order)),
-        Update::Cell(0, by(customer), CellChange::Add(5)),
-        Update::Cell(1, by(order), CellChange::SetText(Text::new(b"x")?)),
-        Update::Cell(2, by(line), CellChange::Add(7)),
+        Update::Create(customer(), 0, Keys::empty()),
+        Update::Create(order(), 1, by(customer())),
+        Update::Create(line(), 2, by(order())),
+        Update::Cell(0, by(customer()), CellChange::Add(5)),
+        set(1, order(), b"x"),
+        Update::Cell(2, by(line()), CellChange::Add(7)),
     ] {
         state.update(&update)?;
     }
     Ok(state)
 }
 
+fn without(server: &State, id: Uid) -> Result<State, Fail> {
+    let mut child = server.fork()?;
+    child.update(&Update::Delete(id))?;
+    Ok(child)
+}
+
+// A fork with a late order, which has a text.
+fn with_late(server: &State) -> Result<State, Fail> {
+    let mut child = server.fork()?;
+    child.update(&Update::Create(late(), 1, by(customer())))?;
+    child.update(&set(1, late(), b"y"))?;
+    Ok(child)
+}
+
 fn answers(state: &State, query: &Query, want: &Answer) -> Result<bool, Fail> {
     Ok(state.ask(query)? == *want)
 }
 
-fn holding(property: u16, id: Uid, value: Content) -> CellValue {
-    CellValue {
-        property,
-        keys: by(id),
-        value,
-    }
+fn begins(alloc: Global) -> Result<bool, Fail> {
+    let server = server(alloc)?;
+    let has_line = answers(&server, &Query::Get(2, by(line())), &Answer::Int(7))?;
+    let has_late = answers(&server, &Query::Alive(late()), &Answer::Truth(true))?;
+    Ok(has_line && !has_late)
 }
 
-// What is told of a late order with a text, and of a customer who was deleted.
-fn tells(late: &State, gone: &State, ids: &[Uid; 3]) -> Result<bool, Fail> {
-    let [customer, order, line] = *ids;
-    let made = late.effect()?;
-    let lost = gone.effect()?;
-    let told_late = made.created().len() == 1 && made.dead().is_empty();
-    let told_gone = lost.dead() == [order, customer, line].as_slice();
-    Ok(told_late && told_gone && made.cells().len() == 1 && lost.cells().is_empty())
+fn forks(alloc: Global) -> Result<bool, Fail> {
+    let server = server(alloc)?;
+    let child = without(&server, line())?;
+    Ok(child.get_int(2, &by(line())) == 0 && !child.alive(line()) && server.alive(line()))
+}
+
+#[test]
+fn a_fork_loses_a_line(rt: HostRuntime) -> Result<(), Fail> {
+    assert!(rt; begins(rt.alloc())?);
+    assert!(rt; forks(rt.alloc())?);
+    Ok(())
+}
+
+fn lost(alloc: Global, id: Uid) -> Result<Change, Fail> {
+    let server = server(alloc)?;
+    let child = without(&server, id)?;
+    Ok(child.effect()?)
+}
+
+fn made(alloc: Global) -> Result<Change, Fail> {
+    let server = server(alloc)?;
+    let child = with_late(&server)?;
+    Ok(child.effect()?)
 }
 
 // The image of a server that is told of a late order and of a deleted line.
-fn told(server: &State, late: &State, gone: &State) -> Result<Image, Fail> {
-    let mut told = server.fork()?;
-    told.join_change(&late.effect()?)?;
-    told.join_change(&gone.effect()?)?;
-    Ok(told.image()?)
+fn told(alloc: Global) -> Result<Image, Fail> {
+    let made = made(alloc)?;
+    let lost = lost(alloc, line())?;
+    let mut server = server(alloc)?;
+    server.join_change(&made)?;
+    server.join_change(&lost)?;
+    Ok(server.image()?)
 }
 
-// Three ids live, of which each has a cell.
+// Three ids live, of which each has a cell, the first one this.
 fn is_told(image: &Image, first: &CellValue, dead: Uid) -> bool {
     let begins = match image.cells() {
         [value, ..] => *value == *first,
@@ -101,53 +155,80 @@ fn is_told(image: &Image, first: &CellValue, dead: Uid) -> bool {
 
 // The state of an image has this image, and did nothing yet.
 fn goes_on(alloc: Global, image: &Image) -> Result<bool, Fail> {
-    let state = State::of_image(alloc, &shop(alloc)?, image)?;
+    let schema = shop(alloc)?;
+    let state = State::of_image(alloc, &schema, image)?;
     let again = state.image()?;
     let change = state.effect()?;
     Ok(again.cells() == image.cells() && again.dead() == image.dead() && change.dead().is_empty())
 }
 
 #[test]
-fn a_line_goes_with_the_customer_of_its_order(rt: HostRuntime) -> Result<(), Fail> {
-    let customer = Uid::new(1, 0);
-    let order = Uid::new(0, 7);
-    let line = Uid::new(1, 1);
-    let late = Uid::new(2, 0);
-    let server = filled(rt.alloc(), &[customer, order, line])?;
-    assert!(rt; answers(&server, &Query::Get(2, by(line)), &Answer::Int(7))?);
-    assert!(rt; answers(&server, &Query::Alive(late), &Answer::Truth(false))?);
+fn what_was_done_is_told(rt: HostRuntime) -> Result<(), Fail> {
+    let made = made(rt.alloc())?;
+    assert!(rt; made.created().len() == 1 && made.dead().is_empty() && made.cells().len() == 1);
+    let lost = lost(rt.alloc(), customer())?;
+    assert!(rt; lost.dead() == [order(), customer(), line()].as_slice() && lost.cells().is_empty());
+    Ok(())
+}
 
-    let mut first = server.fork()?;
-    first.update(&Update::Delete(line))?;
-    assert!(rt; first.get_int(2, &by(line)) == 0 && !first.alive(line));
-    let mut second = server.fork()?;
-    second.update(&Update::Delete(customer))?;
-    let mut third = server.fork()?;
-    third.update(&Update::Create(late, 1, by(customer)))?;
-    let text = CellChange::SetText(Text::new(b"y")?);
-    third.update(&Update::Cell(1, by(late), text))?;
-    assert!(rt; tells(&third, &second, &[customer, order, line])?);
-    let image = told(&server, &third, &first)?;
-    assert!(rt; is_told(&image, &holding(0, customer, Content::Int(5)), line));
+#[test]
+fn an_image_goes_on(rt: HostRuntime) -> Result<(), Fail> {
+    let image = told(rt.alloc())?;
+    let first = CellValue {
+        property: 0,
+        keys: by(customer()),
+        value: Content::Int(5),
+    };
+    assert!(rt; is_told(&image, &first, line()));
     assert!(rt; goes_on(rt.alloc(), &image)?);
+    Ok(())
+}
 
-    for late_first in [true, false] {
-        let mut joined = server.fork()?;
-        joined.join(&first)?;
-        assert!(rt; joined.get_text(1, &by(order)) == Text::new(b"x")?);
-        if late_first {
-            joined.join(&third)?;
-            assert!(rt; joined.get_text(1, &by(late)) == Text::new(b"y")?);
-        }
-        joined.join(&second)?;
-        if !late_first {
-            joined.join(&third)?;
-        }
-        assert!(rt; joined.get_text(1, &by(late)) == Text::new(b"")?);
-        let none = Answer::Ids(Sequence::new(rt.alloc()));
-        assert!(rt; answers(&joined, &Query::All(1), &none)?);
-        let empty = Answer::Tuples(Sequence::new(rt.alloc()));
-        assert!(rt; answers(&joined, &Query::Entries(0), &empty)?);
-    }
+// The server, after a child that deleted the line was joined.
+fn after_line(alloc: Global) -> Result<State, Fail> {
+    let mut server = server(alloc)?;
+    let child = without(&server, line())?;
+    server.join(&child)?;
+    Ok(server)
+}
+
+// Then a late order and the deletion of its customer are joined, in one order or the other.
+fn joined(alloc: Global, late_first: bool) -> Result<State, Fail> {
+    let made = made(alloc)?;
+    let lost = lost(alloc, customer())?;
+    let (first, second) = if late_first {
+        (&made, &lost)
+    } else {
+        (&lost, &made)
+    };
+    let mut server = after_line(alloc)?;
+    server.join_change(first)?;
+    server.join_change(second)?;
+    Ok(server)
+}
+
+fn is_empty(alloc: Global, state: &State) -> Result<bool, Fail> {
+    let none = Answer::Ids(Sequence::new(alloc));
+    let empty = Answer::Tuples(Sequence::new(alloc));
+    let has_none = answers(state, &Query::All(1), &none)?;
+    let has_no_entries = answers(state, &Query::Entries(0), &empty)?;
+    Ok(has_none && has_no_entries && state.get_text(1, &by(late())) == text(b""))
+}
+
+fn ends_empty(alloc: Global, late_first: bool) -> Result<bool, Fail> {
+    let state = joined(alloc, late_first)?;
+    is_empty(alloc, &state)
+}
+
+fn order_text(alloc: Global) -> Result<Text, Fail> {
+    let state = after_line(alloc)?;
+    Ok(state.get_text(1, &by(order())))
+}
+
+#[test]
+fn a_late_order_goes_with_its_customer(rt: HostRuntime) -> Result<(), Fail> {
+    assert!(rt; order_text(rt.alloc())? == text(b"x"));
+    assert!(rt; ends_empty(rt.alloc(), true)?);
+    assert!(rt; ends_empty(rt.alloc(), false)?);
     Ok(())
 }

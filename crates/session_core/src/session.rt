@@ -1,7 +1,7 @@
 // A client's session.
 ghost use Rattle.std.specs.Prelude.{◌≡◌, ◌≢◌, ◌<◌, ◌≤◌, ◌^◌, ◌⊎◌, ◌↔◌, [], ◌∷◌, ◌++◌, List, None};
 ghost use Rattle.std.specs.Prelude.{Some, IfOk, OnOk, IfErr, OnErr, IsTrue, is_some, length, true};
-ghost use Rattle.std.specs.Option.{ForSome};
+ghost use Rattle.std.specs.Option.{ForSome, option_map};
 ghost use Rattle.cloud_base.specs.Answer.{answer};
 ghost use Rattle.cloud_base.specs.Events.{EndsAtMark};
 ghost use Rattle.cloud_base.specs.Shaped.{IsShaped, IsShapedQuery, cell_type};
@@ -16,6 +16,7 @@ ghost use Rattle.session_core.specs.Insides.{StandsFor};
 ghost use Rattle.session_core.specs.Standings.{
   IsKeptReply,
   IsStanding,
+  base_now,
   is_of_run,
   seen,
   tail_of,
@@ -140,6 +141,17 @@ fn answer_one(schema: &Schema, state: &State, query: &Query) -> Answer
         },
         Query::Alive(id) => Answer::Truth(state.alive(*id)),
         Query::All(_) | Query::Entries(_) => unreachable!(),
+    }
+}
+
+// The batch that is outstanding, and the base of what ran since: nothing is pulled where one is.
+fn sent_and_base(sent: Option<Outstanding>, past: &Front<Batch>) -> (Option<Batch>, Option<u64>)
+    ensures sent { result.0 ≡ option_map (λ x. x.batch) sent }
+    ensures base { result.1 ≡ base_now result.0 past.now.list }
+{
+    match sent {
+        Some(Outstanding { wire: _, batch }) => (Some(batch), None),
+        None => (None, Some(past.len())),
     }
 }
 
@@ -636,13 +648,9 @@ impl Session {
             flush: _,
         } = self;
         let Running { before, rest } = running;
-        let base = if sent.is_some() {
-            None
-        } else {
-            Some(past.len())
-        };
+        let (sent, base) = sent_and_base(sent, &past);
         Tail {
-            sent: sent.map(|outstanding| outstanding.batch),
+            sent,
             now: Stretch {
                 base,
                 before: before.into_list(),

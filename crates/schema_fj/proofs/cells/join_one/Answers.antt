@@ -1,4 +1,4 @@
-use Rattle.fj_entity.proofs.LinkLemmas.{on_ok}
+use Rattle.fj_entity.proofs.GroupLemmas.{on_ok}
 use Rattle.schema_fj.proofs.JoinLaws.{joins_skip, joins_put}
 use Rattle.schema_fj.proofs.cells.join_one.Goals as goal
 

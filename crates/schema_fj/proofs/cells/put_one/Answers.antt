@@ -1,4 +1,4 @@
-use Rattle.fj_entity.proofs.LinkLemmas.{on_ok}
+use Rattle.fj_entity.proofs.GroupLemmas.{on_ok}
 use Rattle.schema_fj.proofs.Restored.{puts_nothing, puts_one}
 use Rattle.schema_fj.proofs.cells.put_one.Goals as goal
 

@@ -5,7 +5,7 @@ use Rattle.fj_core.specs.Changes.{ints, texts}
 use Rattle.fj_core.specs.IntCells.{int_plain, int_effect, IntStands}
 use Rattle.fj_core.specs.TextCells.{text_plain, text_effect, TextStands}
 use Rattle.fj_array.specs.Grids.{GridStands}
-use Rattle.fj_entity.proofs.LinkLemmas.{on_ok}
+use Rattle.fj_entity.proofs.GroupLemmas.{on_ok}
 use Rattle.schema_fj.specs.Held.{Held}
 use Rattle.schema_fj.specs.States.{changes_in, StateHolds}
 use Rattle.schema_fj.proofs.StateSteps.{type_is, dead_cell, number_cell, text_cell}

@@ -1,5 +1,5 @@
 use Rattle.std.proofs.Common.{◌∙◌, sym, subst, ◌++◌}
-use Rattle.fj_entity.proofs.LinkLemmas.{on_ok}
+use Rattle.fj_entity.proofs.GroupLemmas.{on_ok}
 use Rattle.schema_fj.specs.Held.{Held}
 use Rattle.schema_fj.specs.States.{StateHolds}
 use Rattle.schema_fj.proofs.StateSteps.{created_again}

@@ -1,4 +1,4 @@
-use Rattle.fj_entity.proofs.LinkLemmas.{on_ok}
+use Rattle.fj_entity.proofs.GroupLemmas.{on_ok}
 use Rattle.schema_fj.proofs.state.State.join.Goals as goal
 
 pub returns-clause-ok : goal.returns-clause-ok

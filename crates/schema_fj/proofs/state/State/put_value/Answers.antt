@@ -4,7 +4,7 @@ use Rattle.cloud_base.specs.declared.schema.CellType.{CellType}
 use Rattle.cloud_base.specs.declared.schema.CellType.TheVariants as cell
 use Rattle.fj_core.specs.IntCells.{int_plain, int_effect, IntStands}
 use Rattle.fj_core.specs.TextCells.{text_plain, text_effect, TextStands}
-use Rattle.fj_entity.proofs.LinkLemmas.{on_ok}
+use Rattle.fj_entity.proofs.GroupLemmas.{on_ok}
 use Rattle.schema_fj.specs.Held.{Held}
 use Rattle.schema_fj.specs.Placed.{number_in, text_in, counts, PutsCells}
 use Rattle.schema_fj.specs.Sets.{type_at}

@@ -2,7 +2,7 @@ use Rattle.std.proofs.Common.{◌∷◌, [], ◌++◌, List, sym, subst}
 use Rattle.cloud_base.specs.Shaped.{Fit}
 use Rattle.cloud_base.specs.declared.schema.Schema.{Schema}
 use Rattle.cloud_base.specs.declared.update.Update.{Update}
-use Rattle.fj_entity.proofs.LinkLemmas.{on_ok}
+use Rattle.fj_entity.proofs.GroupLemmas.{on_ok}
 use Rattle.schema_fj.specs.Held.{Held}
 use Rattle.schema_fj.specs.States.{StateStands}
 use Rattle.schema_fj.proofs.StateSteps.{fresh_id}
