@@ -25,8 +25,7 @@ pub enum Which {
     Clients,
     /// A schedule whose numbers add up to more than 100,000.
     Steps,
-    /// Not in the first form. `parse` never tells it: it is for `play`, until that takes every
-    /// program.
+    /// A program that `play` doesn't run yet. `parse` never tells it.
     Form,
 }
 
