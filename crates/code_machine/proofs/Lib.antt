@@ -1,5 +1,6 @@
 pub mod Arithmetic
 pub mod Ending
+pub mod Examples
 pub mod Finding
 pub mod Needing
 pub mod Popping

@@ -8,6 +8,8 @@ mod need;
 mod operators;
 mod stack;
 mod state;
+#[cfg(test)]
+mod tests;
 mod values;
 
 pub use laws::runs_end_once;
