@@ -1,0 +1,5 @@
+pub mod Clients
+pub mod Worlds
+pub mod Plays
+pub mod Programs
+pub mod Worked
