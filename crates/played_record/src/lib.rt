@@ -2,4 +2,9 @@
 // pushes.
 #![tactic(auto)]
 
+mod laws;
+
 pub use cloud_base::{Batch, BatchList, End, Schedule, Tail};
+pub use laws::{
+    moments_of_played_runs, programs_are_traced, records_of_played_runs, steps_and_serves,
+};
