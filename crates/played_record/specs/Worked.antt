@@ -136,3 +136,20 @@ module _ where
   pub example_fates_end : (tails_of 2 (after_fates 6) ≡ at_end 7 [] (prints 111111) ∷ at_end 8 [] (prints 111111) ∷ [])
       × (ends_of 2 (after_fates 6) ≡ Some Done ∷ Some Done ∷ []) × (all_ended 2 (after_fates 5) ≡ false)
   example_fates_end = (refl, refl, refl)
+
+module _ where
+  abbrev both : ℕ → List Line
+  both zero = does (adds 1) ∷ does Flush ∷ does (adds 2) ∷ does Flush ∷ print ∷ []
+  both (suc c) = does (adds 4) ∷ does Yield ∷ does Yield ∷ print ∷ does Flush ∷ print ∷ []
+
+  abbrev late : ℕ → World
+  late count = after_sweeps sums (λ c. runs (both c)) (Steps 1 2 ∷ Steps 0 2 ∷ Serve 0 LosePush ∷ Steps 0 1 ∷ Serve 0 LoseReply ∷ Steps 0 1 ∷ Serve 1 Hold
+      ∷ Steps 1 1 ∷ Serve 1 Pass ∷ Serve 0 Twice ∷ []) 2 count
+
+  -- A flush whose push is lost, and then its reply, is met by a later one, which has what the other client did meanwhile.
+  pub example_late_flush : (late 7).batches ≡ batch 0 1 0 [] (adds 1 ∷ Flush ∷ []) ∷ batch 1 1 0 [] (adds 4 ∷ Yield ∷ []) ∷ batch 1 2 2 (Yield ∷ []) []
+      ∷ batch 0 2 3 [] (adds 2 ∷ Flush ∷ []) ∷ batch 1 3 3 (prints 5 ++ Flush ∷ []) [] ∷ []
+  example_late_flush = refl
+
+  pub example_late_end : (tails_of 2 (late 7) ≡ at_end 4 [] (prints 7) ∷ at_end 5 [] (prints 7) ∷ []) × (all_ended 2 (late 6) ≡ false) × (all_ended 2 (late 7) ≡ true)
+  example_late_end = (refl, refl, refl)
