@@ -8,9 +8,9 @@ use Rattle.cloud_base.specs.declared.batch.Batch.{Batch}
 use Rattle.cloud_base.specs.declared.batch.Stretch.{Stretch}
 use Rattle.cloud_base.specs.declared.batch.Tail.{Tail}
 use Rattle.cloud_base.specs.declared.update.Event.{Event}
-use Rattle.cloud_base.specs.declared.update.Event.TheVariants.{Yield, Flush}
+use Rattle.cloud_base.specs.declared.update.Event.TheVariants.{Do, Ask, Say, Yield, Flush}
 use Rattle.batch_history.specs.Batches.{of_client}
-use Rattle.played_record.specs.Clients.{Client, Reply, Flushing, closed, marked, awaits, own_batches, noted_at, noted, fetched, took, pulled, next_batch, sends, round_sent, pushed, yielded, is_met, flush_after_push, flush_pushed, turned, flushed}
+use Rattle.played_record.specs.Clients.{Client, Reply, Flushing, closed, marked, awaits, own_batches, noted_at, noted, fetched, took, pulled, next_batch, sends, round_sent, pushed, yielded, is_met, flush_after_push, flush_pushed, turned, flushed, done}
 use Rattle.played_record.specs.Laws.{IsClientOf}
 use Rattle.played_record.proofs.Told.{events_of, noted_more, sends_own, own_none, sends_same, took_same, took_own}
 
@@ -61,13 +61,13 @@ noted_goes c batches x event h = record {
 -- ---- a pull
 
 -- a reply that is taken is the one in the inbox, of the outstanding round
-record IsTaken (sent : Option Batch) (found : Option Reply) (reply : Reply) : Type 0 where
-  b : Batch
-  sent_is : sent ≡ Some b
-  found_is : found ≡ Some reply
-  same : reply.round ≡ b.round
+pub record IsTaken (sent : Option Batch) (found : Option Reply) (reply : Reply) : Type 0 where
+  pub b : Batch
+  pub sent_is : sent ≡ Some b
+  pub found_is : found ≡ Some reply
+  pub same : reply.round ≡ b.round
 
-fetched_is : (sent : Option Batch) (found : Option Reply) → ForSome (fetched sent found) (IsTaken sent found)
+pub fetched_is : (sent : Option Batch) (found : Option Reply) → ForSome (fetched sent found) (IsTaken sent found)
 fetched_is None found reply e = absurd (cc (e))
 fetched_is (Some b) None reply e = absurd (cc (e))
 fetched_is (Some b) (Some other) reply e = elim (cases_eq other.round b.round) [
@@ -267,3 +267,11 @@ flushed_goes c batches x h =
     let second = marked_goes c batches y first.stands in
     let third = turned_goes c batches (marking y) second.stands in
     goes_then c batches x (marking y) (flushed c batches x) (Flush ∷ []) [] (goes_then c batches x y (marking y) (Flush ∷ []) [] first second) third
+
+-- the next event of a trace is done
+pub done_goes : (event : Event) (c : ℕ) (batches : List Batch) (x : Client) → IsClientOf c batches x → x.flush ≡ closed → GoesTo c batches x (done event c batches x) (event ∷ [])
+done_goes Yield c batches x h shut = yielded_goes c batches x h shut
+done_goes Flush c batches x h shut = flushed_goes c batches x h
+done_goes (Do u) c batches x h shut = noted_goes c batches x (Do u) h
+done_goes (Ask q a) c batches x h shut = noted_goes c batches x (Ask q a) h
+done_goes (Say v) c batches x h shut = noted_goes c batches x (Say v) h

@@ -5,3 +5,5 @@ pub mod Serving
 pub mod Moments
 pub mod Records
 pub mod Programs
+pub mod Ending
+pub mod Least

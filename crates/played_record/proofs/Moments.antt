@@ -123,11 +123,11 @@ follows_end trace events events' end x same next out h =
 -- ---- steps
 
 -- a client's part, once it took a step
-record IsAfterStep (trace : List Answer → List Event × Outcome) (c : ℕ) (batches : List Batch) (y : Client) : Type 0 where
-  stands : IsClientOf c batches y
-  follows : Follows trace (did_by batches c (Some y.tail)) y
+pub record IsAfterStep (trace : List Answer → List Event × Outcome) (c : ℕ) (batches : List Batch) (y : Client) : Type 0 where
+  pub stands : IsClientOf c batches y
+  pub follows : Follows trace (did_by batches c (Some y.tail)) y
 
-did_more : (c : ℕ) (batches : List Batch) (x y : Client) (more : List Event) → GoesTo c batches x y more → did_by batches c (Some y.tail) ≡ did_by batches c (Some x.tail) ++ more
+pub did_more : (c : ℕ) (batches : List Batch) (x y : Client) (more : List Event) → GoesTo c batches x y more → did_by batches c (Some y.tail) ≡ did_by batches c (Some x.tail) ++ more
 did_more c batches x y more goes = did_parts c batches y.tail ∙ goes.events ∙ ap (λ (l : List Event). l ++ more) (sym (did_parts c batches x.tail))
 
 -- it took a turn of a flush
@@ -243,7 +243,7 @@ module _ (answers : List Update → Query → Answer) (trace : ℕ → List Answ
   goes_on_follows c w (Some event) g h running shut next f = done_follows c w.batches event (w.client c) g h running shut next f
   goes_on_follows c w None g h running shut next f = comes_out_follows c w (trace c (w.client c).answers).1 g h running next refl f
 
-  stepped_follows : (c : ℕ) (w : World) (end : Option End) (flush : Flushing) → GoesOn trace → IsMoment trace w → (w.client c).end ≡ end → (w.client c).flush ≡ flush
+  pub stepped_follows : (c : ℕ) (w : World) (end : Option End) (flush : Flushing) → GoesOn trace → IsMoment trace w → (w.client c).end ≡ end → (w.client c).flush ≡ flush
       → IsAfterStep (trace c) c w.batches (stepped answers trace end flush c w)
   stepped_follows c w (Some end) flush g h running shut = record { stands = h.client c; follows = h.follows c }
   stepped_follows c w None closed g h running shut = goes_on_follows c w (next_event answers trace c w) g (h.client c) running shut refl (h.follows c)
@@ -273,11 +273,11 @@ module _ (answers : List Update → Query → Answer) (trace : ℕ → List Answ
   scheduled_moment [] w g h = h
   scheduled_moment (item ∷ schedule) w g h = scheduled_moment schedule (item_done answers trace item w) g (item_moment item w g h)
 
-  swept_moment : (end : Option End) (c : ℕ) (w : World) → GoesOn trace → IsMoment trace w → IsMoment trace (swept_at answers trace end c w)
+  pub swept_moment : (end : Option End) (c : ℕ) (w : World) → GoesOn trace → IsMoment trace w → IsMoment trace (swept_at answers trace end c w)
   swept_moment (Some end) c w g h = h
   swept_moment None c w g h = served_moment trace c Pass (step answers trace c w) (step_moment c w g h)
 
-  sweep_moment : (n : ℕ) (w : World) → GoesOn trace → IsMoment trace w → IsMoment trace (sweep answers trace n w)
+  pub sweep_moment : (n : ℕ) (w : World) → GoesOn trace → IsMoment trace w → IsMoment trace (sweep answers trace n w)
   sweep_moment zero w g h = h
   sweep_moment (suc c) w g h =
       let before = sweep answers trace c w in

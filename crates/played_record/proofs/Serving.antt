@@ -1,8 +1,8 @@
 -- What a serve keeps.
-use Rattle.std.proofs.Common.{◌≡◌, refl, ap, sym, subst, ◌∙◌, ℕ, ◌+◌, ◌≤◌, Bool, true, false, cond, List, [], ◌∷◌, ◌++◌, length, Option, Some, None, inl, inr, arith, append-nil}
+use Rattle.std.proofs.Common.{◌≡◌, refl, ap, sym, subst, ◌∙◌, ℕ, ◌+◌, ◌<◌, ◌≤◌, Bool, true, false, cond, List, [], ◌∷◌, ◌++◌, length, Option, Some, None, inl, inr, arith, append-nil}
 use Rattle.std.specs.Prelude.{◌==◌, nat_lt, ◌≢◌, if◌then◌else◌}
 use Rattle.std.specs.Option.{ForSome}
-use Rattle.std.proofs.lemmas.Bool.{cases_eq, eq-eqb, ne_eqb}
+use Rattle.std.proofs.lemmas.Bool.{cases_eq, cases_lt, eq-eqb, ne_eqb, le-ltb, lt-ltb}
 use Rattle.std.proofs.lemmas.List.{length-append}
 use Rattle.cloud_base.specs.declared.batch.Batch.{Batch}
 use Rattle.cloud_base.specs.declared.batch.Tail.{Tail}
@@ -355,3 +355,69 @@ served_by c fate (Some round) w h is = handled_keeps c fate round w h is
 
 pub served_keeps : (c : ℕ) (fate : Fate) (w : World) → ((k : ℕ) → IsClientOf k w.batches (w.client k)) → ServeKeeps c w (served c fate w)
 served_keeps c fate w h = served_by c fate (w.client c).out w h refl
+
+-- ---- a push that passes is answered
+
+-- a reply to this round lies in the inbox
+pub record IsAnswered (c round : ℕ) (w : World) : Type 0 where
+  pub reply : Reply
+  pub lies : (w.client c).inbox ≡ Some reply
+  pub same : reply.round ≡ round
+
+put_in_answers : (c round base : ℕ) (w : World) → IsAnswered c round (put_in c (Some (record { round = round; base = base })) w)
+put_in_answers c round base w =
+    let reply : Reply = record { round = round; base = base } in
+    record { reply = reply; lies = ap (λ (x : Client). x.inbox) (client-here c (record (w.client c) { inbox = Some reply }) w); same = refl }
+
+-- where the round isn't below the last
+passes_answers : (c round : ℕ) (w : World) → last_round c w.batches ≤ round → IsAnswered c round (passes c round w)
+passes_answers c round w l =
+    let v = joined c round w in
+    let made : Bool → World = λ late. put_in c (if late then None else Some (record { round = round; base = length v.batches })) v in
+    subst (λ (late : Bool). IsAnswered c round (made late)) (sym (le-ltb round (last_round c w.batches) l)) (put_in_answers c round (length v.batches) v)
+
+-- and otherwise the inbox stays
+passes_late : (c round : ℕ) (w : World) → round < last_round c w.batches → ((passes c round w).client c).inbox ≡ (w.client c).inbox
+passes_late c round w l =
+    let v = joined c round w in
+    let made : Bool → World = λ late. put_in c (if late then None else Some (record { round = round; base = length v.batches })) v in
+    ap (λ (late : Bool). ((made late).client c).inbox) (lt-ltb round (last_round c w.batches) l)
+
+-- a held copy is of that round too, or is late
+releases_answers : (c round : ℕ) (held : Option ℕ) (w : World) → IsAnswered c round w → ForSome held (λ (n : ℕ). n ≤ round) → round ≤ last_round c w.batches
+    → IsAnswered c round (releases c held w)
+releases_answers c round None w a l there = a
+releases_answers c round (Some n) w a l there = elim (cases_lt n (last_round c w.batches)) [
+  | inl late ↦ record { reply = a.reply; lies = passes_late c n w late ∙ a.lies; same = a.same }
+  | inr next ↦
+      let below = l n refl in
+      let number : n ≡ round = omega arith in
+      subst (λ (k : ℕ). IsAnswered c k (passes c n w)) number (passes_answers c n w next)
+]
+
+put_in_batches : (c : ℕ) (reply : Option Reply) (w : World) → (put_in c reply w).batches ≡ w.batches
+put_in_batches c None w = refl
+put_in_batches c (Some reply) w = refl
+
+handled_answers : (c round : ℕ) (w : World) → ((k : ℕ) → IsClientOf k w.batches (w.client k)) → (w.client c).out ≡ Some round → round ≡ length (own_in c w)
+    → IsAnswered c round (handled c fate.Pass round w)
+handled_answers c round w h is whole =
+    let u = emptied c w in
+    let tails = tails_same c (record (w.client c) { out = None }) w refl in
+    let empty = emptied_serves c round w h is in
+    let own : length (own_in c u) ≡ length (own_in c w) = ap (λ (t : Tail). length (own_batches c w.batches t)) (tails c) in
+    let taken = joined_taken c round u empty (omega arith) in
+    let v = passes c round u in
+    let parts : length (own_in c u) ≡ length (of_client c u.batches) + length (unjoined (of_client c u.batches) (sent_in c u)) =
+    length-append (of_client c u.batches) (unjoined (of_client c u.batches) (sent_in c u)) in
+    let passed = passes_answers c round u (omega arith) in
+    let there : round ≤ last_round c v.batches = subst (λ (bs : List Batch). round ≤ length (of_client c bs)) (sym (put_in_batches c (reply_to c round u) (joined c round u))) taken.there in
+    let released = releases_answers c round (w.client c).held v passed (λ n e. let l = (h c).held n e in omega arith) there in
+    let y = releases c (w.client c).held v in
+    record { reply = released.reply; lies = ap (λ (x : Client). x.inbox) (client-here c (record (y.client c) { held = None }) y) ∙ released.lies; same = released.same }
+
+-- the outstanding push lies in the outbox: a serve puts its reply into the inbox
+pub pass_answers : (c : ℕ) (b : Batch) (w : World) → ((k : ℕ) → IsClientOf k w.batches (w.client k)) → (w.client c).tail.sent ≡ Some b → (w.client c).out ≡ Some b.round
+    → IsAnswered c b.round (served c fate.Pass w)
+pass_answers c b w h sent is =
+    subst (λ (out : Option ℕ). IsAnswered c b.round (served_out c fate.Pass out w)) (sym is) (handled_answers c b.round w h is ((h c).round b sent))

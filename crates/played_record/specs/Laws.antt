@@ -4,13 +4,18 @@ use Rattle.std.specs.Option.{ForSome}
 use mathlib.Core.List.{IsPrefix}
 use Rattle.cloud_base.specs.Events.{Outcome, ended, answers_in}
 use Rattle.cloud_base.specs.declared.batch.Batch.{Batch}
+use Rattle.cloud_base.specs.declared.batch.Tail.{Tail}
 use Rattle.cloud_base.specs.declared.end.End.{End}
+use Rattle.cloud_base.specs.declared.schedule.ScheduleItem.{ScheduleItem}
 use Rattle.cloud_base.specs.declared.update.Answer.{Answer}
 use Rattle.cloud_base.specs.declared.update.Event.{Event}
+use Rattle.cloud_base.specs.declared.update.Query.{Query}
+use Rattle.cloud_base.specs.declared.update.Update.{Update}
 use Rattle.batch_history.specs.Batches.{of_client, unjoined}
 use Rattle.typed_program.specs.Laws.{Extends, InOrder}
 use Rattle.played_record.specs.Clients.{Client, Reply, awaits, own_batches, round_sent}
 use Rattle.played_record.specs.Worlds.{World, did}
+use Rattle.played_record.specs.Plays.{IsPlayed}
 
 -- nothing of a client but its boxes and its held copy changes
 abbrev pub BoxesAlone : Client → Client → Type 0
@@ -63,3 +68,11 @@ pub record Follows (trace : List Answer → List Event × Outcome) (events : Lis
 pub record IsMoment (trace : ℕ → List Answer → List Event × Outcome) (w : World) : Type 0 where
   pub client : (c : ℕ) → IsClientOf c w.batches (w.client c)
   pub follows : (c : ℕ) → Follows (trace c) (did c w) (w.client c)
+
+-- a run has a record, after so many sweeps at most
+pub record HasRecord (answers : List Update → Query → Answer) (trace : ℕ → List Answer → List Event × Outcome) (schedule : List ScheduleItem) (n most : ℕ) : Type 0 where
+  pub batches : List Batch
+  pub tails : List Tail
+  pub ends : List End
+  pub played : IsPlayed answers trace schedule n batches tails ends
+  pub within : played.count ≤ most

@@ -6,5 +6,6 @@ mod laws;
 
 pub use cloud_base::{Batch, BatchList, End, Schedule, Tail};
 pub use laws::{
-    moments_of_played_runs, programs_are_traced, records_of_played_runs, steps_and_serves,
+    moments_of_played_runs, played_runs_end, programs_are_traced, records_of_played_runs,
+    steps_and_serves,
 };
