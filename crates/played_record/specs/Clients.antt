@@ -61,7 +61,7 @@ fresh = record {
 abbrev pub own_batches : ℕ → List Batch → Tail → List Batch
 own_batches c batches tail = of_client c batches ++ unjoined (of_client c batches) tail.sent
 
--- since a pull, what was joined at its base, and what the client did since its last push; while that
+-- since a pull, and before the first push, what was joined at its base, and what the client did since its last push; while that
 -- is outstanding, what it had seen at its end, and what it did since
 abbrev pub seen_from : Option ℕ → ℕ → List Batch → Tail → List Update
 seen_from (Some base) c batches tail = flat batches base ++ updates_of tail.now.before ++ updates_of tail.now.rest
@@ -73,7 +73,7 @@ seen c batches tail = seen_from tail.now.base c batches tail
 
 -- ---- events
 
--- an event comes last of what ran since a pull, or of what runs before the next one
+-- an event comes last of what ran since a pull or since the start, or of what runs before the next pull
 abbrev pub noted_at : Option ℕ → Event → Stretch → Stretch
 noted_at (Some base) event now = record now { rest = now.rest ++ event ∷ [] }
 noted_at None event now = record now { before = now.before ++ event ∷ [] }
@@ -99,7 +99,7 @@ abbrev pub took : Option Reply → Tail → Tail
 took None tail = tail
 took (Some reply) tail = record { sent = None; now = record { base = Some reply.base; before = tail.now.before; rest = [] } }
 
--- a pull: the inbox is emptied, and the reply to the outstanding round is taken
+-- a pull: the inbox is emptied, the round that was there is kept, and the reply to the outstanding round is taken
 abbrev pub pulled : Client → Client
 pulled x = record x {
   tail = took (fetched x.tail.sent x.inbox) x.tail;
@@ -195,11 +195,11 @@ module _ where
   example_seen = refl
 
   -- with no reply a further yield puts the same round out again
-  pub example_again : (yielded 2 [] (record once { out = None })).tail ≡ record { sent = Some first; now = record { base = None; before = Yield ∷ []; rest = [] } }
+  pub example_again : yielded 2 [] (record once { out = None }) ≡ record once { tail = record { sent = Some first; now = record { base = None; before = Yield ∷ []; rest = [] } } }
   example_again = refl
 
   -- the reply to another round is dropped, and that to the outstanding one is taken
-  pub example_other : (pulled (record once { inbox = Some (record { round = 7; base = 3 }) })).tail ≡ once.tail
+  pub example_other : pulled (record once { inbox = Some (record { round = 7; base = 3 }) }) ≡ record once { taken = 7 }
   example_other = refl
 
   pub example_took : (pulled (noted one (record once { inbox = Some (record { round = 1; base = 3 }) }))).tail ≡

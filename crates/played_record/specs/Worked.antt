@@ -153,3 +153,17 @@ module _ where
 
   pub example_late_end : (tails_of 2 (late 7) ≡ at_end 4 [] (prints 7) ∷ at_end 5 [] (prints 7) ∷ []) × (all_ended 2 (late 6) ≡ false) × (all_ended 2 (late 7) ≡ true)
   example_late_end = (refl, refl, refl)
+
+module _ where
+  -- one yields and prints, and the other one adds and yields
+  abbrev apart : ℕ → List Answer → List Event × Outcome
+  apart zero = runs (does Yield ∷ print ∷ [])
+  apart (suc c) = runs (does (adds 1) ∷ does Yield ∷ [])
+
+  abbrev others_first : List ScheduleItem
+  others_first = Steps 0 1 ∷ Steps 1 2 ∷ Serve 1 Pass ∷ Serve 0 LoseReply ∷ Steps 0 2 ∷ []
+
+  -- A client whose push was joined, and whose reply was lost, doesn't see what others joined before.
+  pub example_apart : ((after_sweeps sums apart others_first 2 0).batches ≡ batch 1 1 0 [] (adds 1 ∷ Yield ∷ []) ∷ batch 0 1 0 [] (Yield ∷ []) ∷ [])
+      × (((after_sweeps sums apart others_first 2 0).client 0).tail ≡ record { sent = Some (batch 0 1 0 [] (Yield ∷ [])); now = record { base = None; before = prints 0; rest = [] } })
+  example_apart = (refl, refl)

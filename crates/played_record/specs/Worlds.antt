@@ -26,7 +26,7 @@ did c w = did_by w.batches c (Some (w.client c).tail)
 
 -- ---- a push is taken
 
--- the round of a client's last batch in a record, 0 where there is none
+-- how many batches of a client a record has, which is the round of the last one
 abbrev pub last_round : ℕ → List Batch → ℕ
 last_round c batches = length (of_client c batches)
 
@@ -36,7 +36,7 @@ joined c round w = record w {
   batches = if round == last_round c w.batches + 1 then w.batches ++ unjoined (of_client c w.batches) (w.client c).tail.sent else w.batches;
 }
 
--- a push is answered by how many batches there are now, unless it is of an earlier round than the client's last
+-- a push is answered by how many batches there are once it was taken, unless it is of an earlier round than the client's last
 abbrev pub reply_to : ℕ → ℕ → World → Option Reply
 reply_to c round w = if nat_lt round (last_round c w.batches) then None else Some (record { round = round; base = length (joined c round w).batches })
 
@@ -121,4 +121,5 @@ module _ where
 
   pub example_hold : (((served 1 Hold sent).client 1).held ≡ Some 1) × (((served 1 Pass second).client 1).inbox ≡ Some (record { round = 2; base = 2 }))
       × (((served 1 LosePush second).client 1).inbox ≡ Some (record { round = 1; base = 1 })) × (((served 1 LosePush second).client 1).held ≡ None)
-  example_hold = (refl, refl, refl, refl)
+      × (((served 1 LoseReply second).client 1).inbox ≡ None)
+  example_hold = (refl, refl, refl, refl, refl)
