@@ -1,4 +1,5 @@
 pub mod EntryLemmas
+pub mod FlagLemmas
 pub mod LaidLemmas
 pub mod PlaceLemmas
 pub mod EditLemmas

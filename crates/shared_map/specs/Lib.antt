@@ -1,3 +1,4 @@
 pub mod Entries
+pub mod Flags
 pub mod Places
 pub mod Shelves
