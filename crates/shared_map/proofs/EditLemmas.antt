@@ -1,19 +1,18 @@
 -- What an edit at a key's place makes of the entries.
-use Rattle.std.proofs.Common.{◌≡◌, Bool, true, false, cond, List, [], ◌∷◌, refl, sym, ◌∙◌, ap, subst, ℕ, zero, suc, ◌<◌, ◌≤◌, length, drop, get_or, arith, slice_set}
+use Rattle.std.proofs.Common.{◌≡◌, Bool, true, false, cond, List, [], ◌∷◌, refl, sym, ◌∙◌, ap, ℕ, zero, suc, ◌<◌, length, drop, get_or, arith, slice_set}
 use Rattle.std.specs.Prelude.{Option, Some, None, not}
-use Rattle.std.specs.Option.{option_map, option_or}
-use Rattle.std.specs.List.{AllByRecursion, filter, insert, remove}
+use Rattle.std.specs.Option.{option_map}
+use Rattle.std.specs.List.{AllByRecursion, insert, remove}
 use Rattle.std.specs.Ordering.{is_eq, is_lt}
 use Rattle.std.specs.Map.{keys_of}
 use Rattle.std.specs.BTreeMap.{is_at}
 use Rattle.std.specs.Cmp.{IsTotalOrder, eq_by_cmp_equiv}
 use Rattle.std.specs.declared.cmp.Ordering.{Ordering}
-use Rattle.std.specs.declared.cmp.Ordering.TheVariants.{Less, Equal, Greater}
+use Rattle.std.specs.declared.cmp.Ordering.TheVariants.{Less}
 use Rattle.shared_map.specs.Entries.{with_entry, value_at, without_key, entries_from, Updates}
 use Rattle.shared_map.specs.Places.{IsPlaceOf, IsGapFor, IsStartOf}
 use Rattle.shared_map.specs.Shelves.{unflagged}
-use Rattle.shared_map.proofs.EntryLemmas.{by_cases, Ascends, Below, IsFair, is_eq_equal, less_back, greater_back, same_at, head_below, tail_ascends, with_first, with_equal, with_later, is_self, found, found_with, found_filter, value_is}
-use Rattle.shared_map.proofs.LaidLemmas.{below_unflagged}
+use Rattle.shared_map.proofs.EntryLemmas.{Below, IsFair, greater_back, same_at, with_first, with_equal, with_later, is_self, found, found_with, found_filter, value_is}
 
 first_or_none : {V : Type 0} (flag b : Bool) (v : V) (p : Option V) → b ≡ true → p ≡ None → cond flag p (cond b (Some v) p) ≡ cond flag None (Some v)
 first_or_none true b v p h none = none

@@ -1,21 +1,19 @@
 -- Laws of entries laid over those of a shelf.
-use Rattle.std.proofs.Common.{◌≡◌, Bool, true, false, cond, List, [], ◌∷◌, refl, sym, ◌∙◌, ap, subst, ℕ, zero, suc, ◌<◌, ◌≤◌, ◌+◌, length, drop, get_or, arith, add-one, slice_set}
-use Rattle.std.specs.Prelude.{Option, Some, None, not, if◌then◌else◌}
+use Rattle.std.proofs.Common.{◌≡◌, Bool, true, false, cond, List, [], ◌∷◌, refl, sym, ◌∙◌, ap, ℕ, zero, suc}
+use Rattle.std.specs.Prelude.{Option, Some, None}
 use lib.ListN.{replicate}
 use Rattle.std.specs.Prelude.{Result, OnOk, OnErr}
 use Rattle.std.specs.declared.result.Result.TheVariants.{Ok, Err}
 use Rattle.std.specs.Option.{option_map, option_or}
-use Rattle.std.specs.List.{AllByRecursion, filter, insert}
-use Rattle.std.specs.Ordering.{is_eq, is_lt}
-use Rattle.std.specs.Map.{keys_of, lookup}
+use Rattle.std.specs.List.{filter}
+use Rattle.std.specs.Ordering.{is_eq}
 use Rattle.std.specs.BTreeMap.{is_at}
-use Rattle.std.specs.Cmp.{IsTotalOrder, eq_by_cmp_equiv, alike_right}
+use Rattle.std.specs.Cmp.{IsTotalOrder, eq_by_cmp_equiv}
 use Rattle.std.specs.declared.cmp.Ordering.{Ordering}
 use Rattle.std.specs.declared.cmp.Ordering.TheVariants.{Less, Equal, Greater}
-use Rattle.shared_map.specs.Entries.{with_entry, value_at, without_key, entries_from, Updates}
-use Rattle.shared_map.specs.Places.{IsPlaceOf, IsGapFor}
+use Rattle.shared_map.specs.Entries.{with_entry, value_at}
 use Rattle.shared_map.specs.Shelves.{unflagged, laid_over}
-use Rattle.shared_map.proofs.EntryLemmas.{by_cases, by_order, found, Ascends, Below, IsFair, is_eq_equal, is_self, greater_back, value_is, ascends_cons, head_below, tail_ascends, less_less, equal_less, found_with, ascends_with, with_first, with_equal, with_later, below_with, same_entries, ascends_filter, found_filter}
+use Rattle.shared_map.proofs.EntryLemmas.{found, Ascends, Below, IsFair, is_eq_equal, greater_back, value_is, ascends_cons, head_below, tail_ascends, less_less, equal_less, found_with, ascends_with, with_first, with_equal, with_later, below_with, same_entries, ascends_filter, found_filter}
 
 either_cond : {E : Type 0} (b : Bool) (e : E) (p q r : Option E) → r ≡ option_or p q → cond b (Some e) r ≡ option_or (cond b (Some e) p) q
 either_cond true e p q r h = refl

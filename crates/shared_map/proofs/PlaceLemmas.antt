@@ -1,13 +1,11 @@
 -- Where a key is, and what an edit there makes of the entries.
-use Rattle.std.proofs.Common.{◌≡◌, ◌⊎◌, inl, inr, Bool, true, false, cond, List, [], ◌∷◌, ◌++◌, refl, sym, ◌∙◌, ap, subst, ℕ, zero, suc, ◌<◌, ◌≤◌, ◌+◌, length, take, drop, get_or, arith, add-one, slice_set}
-use Rattle.std.specs.Prelude.{Option, Some, None, not, map, MatchResult, Result}
+use Rattle.std.proofs.Common.{◌≡◌, ◌⊎◌, inl, inr, List, [], ◌∷◌, ◌++◌, sym, ◌∙◌, ap, subst, ℕ, zero, suc, ◌<◌, ◌≤◌, length, take, drop, get_or, arith, add-one}
+use Rattle.std.specs.Prelude.{MatchResult, Result}
 use Rattle.std.specs.declared.result.Result.TheVariants.{Ok, Err}
-use Rattle.std.specs.List.{AllByRecursion, filter, insert, remove, HoldsAt}
+use Rattle.std.specs.List.{insert, remove}
 use Rattle.std.specs.List.Sorted.{IsSortedBy, IsBinarySearchResult, IsSearchInRange}
-use Rattle.std.specs.Ordering.{is_eq, is_lt, ordering_reverse}
-use Rattle.std.specs.Map.{keys_of, lookup}
-use Rattle.std.specs.BTreeMap.{is_at}
-use Rattle.std.specs.Cmp.{IsTotalOrder, eq_by_cmp_equiv, alike_right}
+use Rattle.std.specs.Ordering.{is_eq, is_lt}
+use Rattle.std.specs.Cmp.{IsTotalOrder, eq_by_cmp_equiv}
 use Rattle.std.specs.declared.cmp.Ordering.{Ordering}
 use Rattle.std.specs.declared.cmp.Ordering.TheVariants.{Less, Equal, Greater}
 use Rattle.std.specs.declared.sync.Arc.{Arc}
@@ -15,11 +13,9 @@ use Rattle.std.specs.Arc.{arc_value}
 use Rattle.std.proofs.lemmas.List.{map-append, take-map, drop-map, length-map}
 use Rattle.std.proofs.Math.ListN.{get_or-map}
 use Rattle.std.proofs.lemmas.List.Sorted.{searchable_from_sorted}
-use Rattle.shared_map.specs.Entries.{with_entry, value_at, without_key, entries_from}
 use Rattle.shared_map.specs.Places.{IsPlaceOf, IsGapFor, IsStartOf}
-use Rattle.shared_map.specs.Shelves.{unflagged, pointed}
-use Rattle.shared_map.proofs.EntryLemmas.{by_cases, Ascends, Below, IsFair, is_eq_equal, less_back, greater_back, same_at, head_below, tail_ascends, with_first, with_equal, with_later}
-use Rattle.shared_map.proofs.LaidLemmas.{below_unflagged}
+use Rattle.shared_map.specs.Shelves.{pointed}
+use Rattle.shared_map.proofs.EntryLemmas.{Ascends, Below, is_eq_equal, less_back, greater_back, head_below, tail_ascends}
 
 -- ---- what pointers point to
 module _ {E Z : Type 0} where

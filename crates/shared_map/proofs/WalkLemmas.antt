@@ -1,11 +1,10 @@
 -- A walk over the entries of a map.
 use Rattle.std.proofs.Common.{◌≡◌, Bool, true, false, cond, List, [], ◌∷◌, refl, sym, ◌∙◌, ap, subst, ℕ, zero, suc, ◌<◌, ◌≤◌, ◌+◌, length, drop, get_or, arith, add-one, drop-cons}
-use Rattle.std.specs.Map.{keys_of}
 use Rattle.std.specs.Cmp.{IsTotalOrder}
 use Rattle.std.specs.declared.cmp.Ordering.{Ordering}
 use Rattle.std.specs.declared.cmp.Ordering.TheVariants.{Less, Equal, Greater}
 use Rattle.std.proofs.Math.ListN.{drop_of_length-le}
-use Rattle.shared_map.specs.Shelves.{unflagged, laid_over, IsShelved, IsWalk, to_walk}
+use Rattle.shared_map.specs.Shelves.{unflagged, laid_over, to_walk}
 use Rattle.shared_map.proofs.EntryLemmas.{Ascends, Below, head_below, tail_ascends, less_less}
 use Rattle.shared_map.proofs.LaidLemmas.{laid_first, shelf_first, both_first, shelf_before, below_unflagged}
 

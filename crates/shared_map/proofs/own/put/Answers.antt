@@ -1,9 +1,6 @@
-use Rattle.std.proofs.Common.{◌≡◌, sym, ◌∙◌, ap, subst, List}
+use Rattle.std.proofs.Common.{◌∙◌, ap}
 use Rattle.std.proofs.lemmas.List.{map-set}
 use Rattle.std.specs.Arc.{arc_value}
-use Rattle.std.specs.declared.sync.Arc.{Arc}
-use Rattle.std.proofs.Common.{Global}
-use Rattle.shared_map.specs.Places.{IsPlaceOf, IsGapFor}
 use Rattle.shared_map.specs.Shelves.{pointed}
 use Rattle.shared_map.proofs.PlaceLemmas.{pointed_insert}
 use Rattle.shared_map.proofs.EditLemmas.{set_placed, insert_gap}

@@ -1,5 +1,4 @@
-use Rattle.std.proofs.Common.{◌∙◌, ap, sym}
-use Rattle.std.proofs.lemmas.List.{length-set}
+use Rattle.std.proofs.Common.{◌∙◌, ap}
 use Rattle.shared_map.specs.Shelves.{pointed, unflagged}
 use Rattle.shared_map.proofs.EditLemmas.{flag_placed, flag_missed, misses_gap}
 use Rattle.shared_map.proofs.shelf.take_off.Goals as goal

@@ -1,10 +1,9 @@
-use Rattle.std.proofs.Common.{◌≡◌, sym, ◌∙◌, ap, subst, List, get_or}
-use Rattle.std.specs.Prelude.{Option, Some, None}
+use Rattle.std.proofs.Common.{sym, ◌∙◌, ap, List}
+use Rattle.std.specs.Prelude.{Option, Some}
 use Rattle.std.specs.Option.{option_or}
 use Rattle.std.specs.Arc.{arc_value}
 use Rattle.shared_map.specs.Entries.{value_at}
-use Rattle.shared_map.specs.Places.{IsPlaceOf, IsGapFor}
-use Rattle.shared_map.specs.Shelves.{pointed, on_shelf, unflagged, laid_over}
+use Rattle.shared_map.specs.Shelves.{pointed, on_shelf, unflagged}
 use Rattle.shared_map.proofs.PlaceLemmas.{pointed_at}
 use Rattle.shared_map.proofs.EditLemmas.{value_placed, value_missed, misses_gap}
 use Rattle.shared_map.proofs.LaidLemmas.{value_laid}

@@ -1,4 +1,3 @@
-use Rattle.std.proofs.Common.{sym}
 use Rattle.shared_map.specs.Shelves.{pointed, on_shelf, unflagged}
 use Rattle.shared_map.proofs.LaidLemmas.{ascends_laid, ascends_unflagged}
 use Rattle.shared_map.proofs.map.SharedMap.in_order.Goals as goal

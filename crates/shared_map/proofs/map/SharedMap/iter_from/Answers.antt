@@ -1,4 +1,4 @@
-use Rattle.std.proofs.Common.{◌≡◌, sym, ◌∙◌, ap, subst, List, drop, not}
+use Rattle.std.proofs.Common.{◌∙◌, ap, List, drop, not}
 use Rattle.std.specs.Ordering.{is_lt}
 use Rattle.shared_map.specs.Entries.{entries_from}
 use Rattle.shared_map.specs.Shelves.{pointed, on_shelf, unflagged, laid_over}

@@ -1,5 +1,4 @@
 use Rattle.std.proofs.Common.{refl}
-use Rattle.shared_map.specs.Shelves.{pointed, IsShelved}
 use Rattle.shared_map.proofs.EntryLemmas.{none_ascends}
 use Rattle.shared_map.proofs.map.SharedMap.new.Goals as goal
 

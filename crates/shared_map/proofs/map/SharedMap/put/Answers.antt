@@ -1,8 +1,8 @@
-use Rattle.std.proofs.Common.{◌≡◌, sym, ◌∙◌, ap, subst, List}
+use Rattle.std.proofs.Common.{◌∙◌, ap, List}
 use Rattle.std.specs.Arc.{arc_value}
 use Rattle.shared_map.specs.Entries.{with_entry}
-use Rattle.shared_map.specs.Shelves.{pointed, on_shelf, unflagged, laid_over, IsShelved}
-use Rattle.shared_map.proofs.EntryLemmas.{Ascends, ascends_with}
+use Rattle.shared_map.specs.Shelves.{pointed, on_shelf, unflagged, laid_over}
+use Rattle.shared_map.proofs.EntryLemmas.{ascends_with}
 use Rattle.shared_map.proofs.LaidLemmas.{with_laid, ascends_unflagged, by_result, on_ok}
 use Rattle.shared_map.proofs.map.SharedMap.put.Goals as goal
 

@@ -1,4 +1,4 @@
-use Rattle.std.proofs.Common.{◌≡◌, sym, ◌∙◌, ap, subst, List, length}
+use Rattle.std.proofs.Common.{◌≡◌, sym, ◌∙◌, ap, subst, List}
 use Rattle.std.specs.Prelude.{not, None}
 use Rattle.std.specs.BTreeMap.{is_at}
 use Rattle.shared_map.specs.Entries.{without_key, Updates}

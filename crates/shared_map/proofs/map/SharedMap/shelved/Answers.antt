@@ -1,8 +1,6 @@
-use Rattle.std.proofs.Common.{◌≡◌, sym, ◌∙◌, ap, subst, List, length, false}
-use Rattle.std.specs.Map.{keys_of}
+use Rattle.std.proofs.Common.{sym, ◌∙◌, ap, subst, List, false}
 use Rattle.std.specs.Arc.{arc_value}
 use Rattle.std.proofs.lemmas.List.{length-map, length-replicate}
-use lib.ListN.{replicate}
 use Rattle.shared_map.specs.Shelves.{pointed, unflagged, laid_over}
 use Rattle.shared_map.proofs.LaidLemmas.{none_flagged}
 use Rattle.shared_map.proofs.EntryLemmas.{none_ascends, Ascends}
