@@ -1,3 +1,4 @@
 pub mod Prefixes
 pub mod Own
 pub mod Joined
+pub mod Alone

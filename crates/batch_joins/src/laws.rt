@@ -10,9 +10,9 @@ ghost use Rattle.cloud_base.specs.declared.update.Answer.{Answer};
 ghost use Rattle.cloud_base.specs.declared.update.Query.{Query};
 ghost use Rattle.cloud_base.specs.declared.update.Update.{Update};
 ghost use Rattle.batch_history.specs.Batches.{updates_in, flat, of_client};
-ghost use Rattle.batch_history.specs.Sound.{CreatedBy, SoundBatches};
+ghost use Rattle.batch_history.specs.Sound.{EachFrom, CreatedBy, SoundBatches};
 ghost use Rattle.batch_history.specs.Right.{IsThatOf, RightBatches};
-ghost use Rattle.batch_joins.specs.Joins.{all_updates, Follows, RightOwn};
+ghost use Rattle.batch_joins.specs.Joins.{all_updates, FitsAlone, Follows, RightOwn};
 
 /// Of two fronts of one record, the one with more of a client's batches is the longer. A front with
 /// as many of them as the record has all of them. What a client had seen at a pull, or below a base
@@ -63,4 +63,16 @@ pub fn next_batches_join()
         → RightBatches (IsThatOf answers) batches
         → RightOwn (IsThatOf answers) past own
         → RightBatches (IsThatOf answers) (batches ++ b ∷ []) }
+{}
+
+/// A client's batches in a sound record fit each behind those before it, create no id twice, and
+/// are answered right where the record is.
+pub fn own_batches_alone()
+    ensures each { (c : ℕ) (batches : List Batch) → SoundBatches batches →
+        EachFrom FitsAlone [] (of_client c batches) }
+    ensures once { (c : ℕ) (batches : List Batch) → SoundBatches batches →
+        CreatedOnce (all_updates (of_client c batches)) }
+    ensures right { (answers : List Update → Query → Answer) (c : ℕ) (batches : List Batch) →
+        SoundBatches batches → RightBatches (IsThatOf answers) batches →
+        RightOwn (IsThatOf answers) batches (of_client c batches) }
 {}

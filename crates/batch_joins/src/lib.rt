@@ -3,4 +3,4 @@
 
 mod laws;
 
-pub use laws::{fronts_of_one_record, next_batches_join, own_updates_join};
+pub use laws::{fronts_of_one_record, next_batches_join, own_batches_alone, own_updates_join};

@@ -2,7 +2,6 @@ pub mod Bounded
 pub mod Counted
 pub mod Shaped
 pub mod Spelled
-pub mod Alone
 pub mod Again
 pub mod Records
 pub mod Examples

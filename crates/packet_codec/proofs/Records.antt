@@ -20,13 +20,13 @@ use Rattle.batch_history.specs.Sound.{CreatedBy, SoundBatches}
 use Rattle.batch_history.proofs.Clients.{of_client-here, of_client-else}
 use Rattle.batch_history.proofs.Fronts.{flat_all, sound_front, right_front}
 use Rattle.batch_joins.specs.Joins.{all_updates, FitsAlone, RightOwn}
+use Rattle.batch_joins.proofs.Alone.{own_fit_alone, own_right}
 use Rattle.batch_joins.proofs.Joined.{each_last, no_gap, joined_sound, own_joined, right_batches}
 use Rattle.batch_joins.proofs.Own.{more_own, based_part, pulled_part, joined_fit}
 use Rattle.batch_joins.proofs.Prefixes.{prefix_whole}
 use Rattle.packet_codec.specs.Served.{IsServed}
 use Rattle.packet_codec.specs.Pushes.{IsNext, MayPush}
 use Rattle.packet_codec.specs.Replies.{MayReply}
-use Rattle.packet_codec.proofs.Alone.{own_fit_alone, own_right}
 use Rattle.packet_codec.proofs.Bounded.{all_more, within_front, within_joined}
 use Rattle.packet_codec.proofs.Spelled.{all_behind, done_shaped}
 

@@ -12,9 +12,8 @@ ghost use Rattle.cloud_base.specs.declared.update.Answer.{Answer};
 ghost use Rattle.cloud_base.specs.declared.update.Query.{Query};
 ghost use Rattle.cloud_base.specs.declared.update.Update.{Update};
 ghost use Rattle.batch_history.specs.Batches.{updates_in, flat, of_client};
-ghost use Rattle.batch_history.specs.Right.{IsThatOf, RightBatches};
-ghost use Rattle.batch_history.specs.Sound.{EachFrom, CreatedBy, SoundBatches};
-ghost use Rattle.batch_joins.specs.Joins.{all_updates, FitsAlone, RightOwn};
+ghost use Rattle.batch_history.specs.Sound.{CreatedBy};
+ghost use Rattle.batch_joins.specs.Joins.{all_updates};
 ghost use Rattle.change_lists.specs.Effects.{IsEffect};
 ghost use Rattle.change_lists.specs.Images.{IsImage};
 ghost use Rattle.change_lists.specs.Lists.{ChangeLists, ImageLists};
@@ -98,18 +97,6 @@ pub fn replies_are_pulled()
 pub fn next_batches_are_pushed()
     ensures { (schema : Schema) (past : List Batch) (b : Batch) → IsServed schema past →
         IsNext schema past b → MayPush schema past (of_client b.client past ++ b ∷ []) b }
-{}
-
-/// A client's batches in a sound record fit each behind those before it, create no id twice, and
-/// are answered right where the record is.
-pub fn own_batches_alone()
-    ensures each { (c : ℕ) (batches : List Batch) → SoundBatches batches →
-        EachFrom FitsAlone [] (of_client c batches) }
-    ensures once { (c : ℕ) (batches : List Batch) → SoundBatches batches →
-        CreatedOnce (all_updates (of_client c batches)) }
-    ensures right { (answers : List Update → Query → Answer) (c : ℕ) (batches : List Batch) →
-        SoundBatches batches → RightBatches (IsThatOf answers) batches →
-        RightOwn (IsThatOf answers) batches (of_client c batches) }
 {}
 
 /// What a client may push, and what a server may reply, is a packet for the schema, so it has one

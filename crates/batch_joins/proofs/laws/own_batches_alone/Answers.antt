@@ -1,7 +1,7 @@
 -- The laws, from their lemmas.
 use Rattle.batch_history.specs.Right.{IsThatOf}
-use Rattle.packet_codec.proofs.Alone.{own_fit_alone, own_created_once, own_right}
-use Rattle.packet_codec.proofs.laws.own_batches_alone.Goals as goal
+use Rattle.batch_joins.proofs.Alone.{own_fit_alone, own_created_once, own_right}
+use Rattle.batch_joins.proofs.laws.own_batches_alone.Goals as goal
 
 pub returns-clause-each : goal.returns-clause-each
 returns-clause-each c = own_fit_alone
