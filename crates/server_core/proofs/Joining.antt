@@ -4,7 +4,6 @@ use Rattle.std.specs.Prelude.{Option, Some, None, slice_get, slice_set, replicat
 use Rattle.std.specs.List.{AllByRecursion}
 use Rattle.std.proofs.lemmas.Bool.{cases_eq, cases_lt}
 use Rattle.std.proofs.lemmas.List.{length-append, length-set, length-replicate, get_or-set_same, get_or-set_other, get_or-replicate, get_or_past}
-use Rattle.cloud_base.specs.Shaped.{Fit}
 use Rattle.cloud_base.specs.declared.batch.Batch.{Batch}
 use Rattle.cloud_base.specs.declared.schema.Schema.{Schema}
 use Rattle.cloud_base.specs.declared.update.Update.{Update}
@@ -35,10 +34,6 @@ each_weaker P Q (x ∷ xs) f h = (f x h.0, each_weaker P Q xs f h.1)
 -- the updates of a record with one more batch
 pub updates_joined : (batches : List Batch) (b : Batch) → all_updates (batches ++ b ∷ []) ≡ all_updates batches ++ updates_in b
 updates_joined batches b = flat_all batches (b ∷ []) ∙ ap (λ (l : List Update). all_updates batches ++ l) (append-nil (updates_in b))
-
--- the log with the batch fits
-pub joined_fits : (schema : Schema) (batches : List Batch) (b : Batch) → IsServed schema (batches ++ b ∷ []) → Fit schema (all_updates batches ++ updates_in b)
-joined_fits schema batches b served = subst (Fit schema) (updates_joined batches b) served.fits
 
 -- what is kept of each client is its batches again
 own_joined : (batches : List Batch) (owns : List (Option (TokenView Batch))) (front : TokenView Batch) (b : Batch) → b.client < length owns → of_client b.client (batches ++ b ∷ []) ≡ front.list → ((c : ℕ) → own_batches (own_front c owns) ≡ of_client c batches) → (c : ℕ) → own_batches (own_front c (slice_set owns b.client (Some front))) ≡ of_client c (batches ++ b ∷ [])

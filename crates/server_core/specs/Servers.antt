@@ -2,11 +2,14 @@
 use Rattle.std.specs.Prelude.{◌≡◌, refl, ℕ, zero, suc, ◌+◌, ◌==◌, ◌≤◌, ◌<◌, List, [], ◌∷◌, ◌++◌, length, Option, Some, None, slice_get, slice_index_or, slice_set, if◌then◌else◌}
 use Rattle.std.proofs.Common.{ap, lit<}
 use Rattle.std.specs.List.{AllByRecursion}
+use Rattle.cloud_base.specs.Alike.{IsPart}
+use Rattle.cloud_base.specs.Shaped.{Fit}
 use Rattle.cloud_base.specs.Values.{most_clients}
 use Rattle.cloud_base.specs.declared.batch.Batch.{Batch}
 use Rattle.cloud_base.specs.declared.schema.Schema.{Schema}
 use Rattle.cloud_base.specs.declared.update.Event.TheVariants.{Yield}
-use Rattle.batch_history.specs.Batches.{of_client}
+use Rattle.cloud_base.specs.declared.update.Update.{Update}
+use Rattle.batch_history.specs.Batches.{of_client, updates_in, flat}
 use Rattle.batch_joins.specs.Joins.{all_updates}
 use Rattle.front_table.specs.TokenView.{TokenView}
 use Rattle.schema_fj.specs.Held.{Held}
@@ -50,6 +53,11 @@ IsServing server = IsRecord server.schema server.joined.list server.owns
 -- the state of a server is that of its record
 abbrev pub StandsFor : Schema → List Batch → Held → Type 0
 StandsFor schema batches state = StateStands schema state (all_updates batches) []
+
+-- a state of a log goes on by what a push did, where the push had seen part of the log and what it did fits behind
+abbrev pub GoesOn : Pushed → Held → Held → Type 0
+GoesOn push old new = (log : List Update) → StateStands push.schema old log [] → IsPart (flat push.past.list push.batch.base) log
+    → Fit push.schema (log ++ updates_in push.batch) → StateStands push.schema new (log ++ updates_in push.batch) []
 
 -- the round of a client's last batch in a record, 0 where there is none
 abbrev pub last_round : ℕ → List Batch → ℕ

@@ -1,5 +1,5 @@
 // The server of a run.
-ghost use Rattle.std.specs.Prelude.{◌≡◌, ◌≤◌, ◌<◌, ◌↔◌, ◌⊎◌, ◌≢◌, ◌+◌, ℕ, List, [], ◌++◌, None};
+ghost use Rattle.std.specs.Prelude.{◌≡◌, ◌≤◌, ◌<◌, ◌↔◌, ◌⊎◌, ◌≢◌, ◌+◌, ℕ, List, [], ◌∷◌, ◌++◌, None};
 ghost use Rattle.std.specs.Prelude.{Some, IfOk, OnOk, IfErr, OnErr, IsTrue, length, replicate};
 ghost use Rattle.std.specs.Option.{ForSome};
 ghost use mathlib.Core.List.{IsPrefix};
@@ -17,6 +17,7 @@ ghost use Rattle.server_core.specs.Servers.{
   IsFor,
   IsServerOf,
   Answers,
+  GoesOn,
   after_push,
   joined_with,
   last_of,
@@ -25,7 +26,6 @@ ghost use Rattle.server_core.specs.Servers.{
   own_batches,
 };
 
-use batch_joins::{fronts_of_one_record, next_batches_join};
 use change_lists::Change;
 use cloud_base::{Batch, BatchList, Memory, Schema, Sequence};
 use front_table::{Front, Writer};
@@ -99,6 +99,31 @@ fn after_change(state: &State, change: &Change) -> Result<State, Memory>
     next.fork()
 }
 
+// The state after a push.
+fn after_push_of(state: &State, push: &Push) -> Result<State, Memory>
+    ensures { IfOk result (GoesOn push.now state.now) }
+{
+    let change = push.change()?;
+    after_change(state, &change)
+}
+
+// Puts a push's batch behind the others, and gives the state after it.
+fn put_behind(
+    alloc: Global,
+    batches: &mut BatchList,
+    state: &State,
+    push: &Push,
+) -> Result<State, Memory>
+    ensures next { IfOk result (GoesOn push.now state.now) }
+    ensures list { OnOk result (batches.new ≡ batches.old ++ push.now.batch ∷ []) }
+    ensures err { OnErr result (batches.new ≡ batches.old) }
+{
+    let batch = push.batch().copy(alloc)?;
+    let next = after_push_of(state, push)?;
+    batches.push(batch)?;
+    Ok(next)
+}
+
 // The number of a client's batches.
 fn own_len(own: &Option<Front<Batch>>) -> u64
     ensures { result ≡ length (own_batches own.now) }
@@ -133,11 +158,11 @@ impl Server {
     {
         let owns = no_batches(alloc, clients)?;
         let writer = Writer::new(alloc)?;
+        let shared = Arc::new(alloc, schema.copy(alloc)?)?;
         let state = State::fresh(alloc, schema)?;
-        let schema = Arc::new(alloc, schema.copy(alloc)?)?;
         Ok(Server {
             alloc,
-            schema,
+            schema: shared,
             state,
             batches: Sequence::new(alloc),
             writer,
@@ -217,15 +242,10 @@ impl Server {
         ensures ok { OnOk result (self.new ≡ joined_with push.now self.old) }
         ensures err { OnErr result (self.new ≡ self.old) }
     {
-        next_batches_join();
-        fronts_of_one_record();
         pushes_are_taken();
         bounded_records();
         push.keeps();
-        let batch = push.batch().copy(self.alloc)?;
-        let change = push.change()?;
-        let state = after_change(&self.state, &change)?;
-        self.batches.push(batch)?;
+        let state = put_behind(self.alloc, &mut self.batches, &self.state, push)?;
         self.state = state;
         self.writer.append(push.batch());
         self.owns[push.client() as usize] = Some(own);
@@ -245,7 +265,7 @@ impl Server {
         ensures client { OnOk result (push.now.batch.client < length self.new.owns) }
         ensures err { OnErr result (self.new ≡ self.old) }
     {
-        next_batches_join();
+        pushes_are_taken();
         push.keeps();
         self.keeps();
         if push.round() == self.last(push.client()) {
