@@ -1,16 +1,16 @@
 -- What serves leave of a hub, and that records grow.
-use Rattle.std.proofs.Common.{◌≡◌, ◌⊎◌, ℕ, ◌+◌, List, [], ◌∷◌, ◌++◌, refl, ap, sym, subst, ◌∙◌, arith, inl, inr, append-nil, append_assoc}
+use Rattle.std.proofs.Common.{◌≡◌, ◌⊎◌, ℕ, ◌+◌, List, [], ◌∷◌, ◌++◌, refl, ap, sym, subst, ◌∙◌, arith, inl, inr, append-nil, append_assoc, ◌<◌, below_more}
 use Rattle.std.specs.Prelude.{Option, Some, None, is_some, Result, Ok, Err, true, false, ◌==◌, if◌then◌else◌}
 use Rattle.std.proofs.lemmas.Bool.{cases_eq}
 use mathlib.Core.List.{IsPrefix}
 use Rattle.cloud_base.specs.declared.batch.Batch.{Batch}
-use Rattle.slot_hub.specs.Boxes.{Boxes, Seen}
+use Rattle.slot_hub.specs.Boxes.{Boxes, Seen, outbox}
 use Rattle.slot_hub.specs.Trades.{Keeps, Told, SwapsIn, SwapsOut}
 use Rattle.slot_hub.specs.declared.traits.Busy.{Busy}
 use Rattle.packet_codec.specs.Pushes.{Pushed}
 use Rattle.packet_codec.specs.Replies.{Replied}
 use Rattle.server_core.specs.Servers.{Serving, after_push, joined_with, last_of}
-use Rattle.server_core.specs.Stations.{OthersStay, Leaves, Touches, TakesOut, PutsIn}
+use Rattle.server_core.specs.Stations.{OthersStay, Leaves, LooksAt, Touches, TakesOut, PutsIn}
 
 pub prefix_same : (xs : List Batch) → IsPrefix xs xs
 prefix_same xs = ([], append-nil xs)
@@ -118,6 +118,37 @@ module _ {S : Type 0} where
     leaves = record { keeps = put.keeps; took = put.took; taken = λ k. ap (λ (f : ℕ → ℕ). f k) put.taken };
     told = untold c old.boxes new.boxes put.busy.untold put.keeps.told;
   }
+
+  -- ---- the trades that are counted
+
+  pub looked_at : (c : ℕ) (result : Result (Option Pushed) (Busy (Option Pushed))) (old new : Seen S Pushed Replied) → TakesOut c result old new → LooksAt c old new
+  looked_at c (Ok got) old new takes none = inl (takes.free.looks none).here
+  looked_at c (Err busy) old new takes none = inr takes.busy.busies.here
+
+  looked_on : (c : ℕ) (a b d : Seen S Pushed Replied) → Keeps b d → LooksAt c a b → LooksAt c a d
+  looked_on c a b d keeps looked none = elim (looked none) [
+    | inl less ↦ let more = keeps.looks (outbox c) in inl (omega arith)
+    | inr less ↦ let more = keeps.busies (outbox c) in inr (omega arith)
+  ]
+
+  pub looked_out : (c : ℕ) (result : Result (Option Pushed) (Busy (Option Pushed))) (a b d : Seen S Pushed Replied) → TakesOut c result a b → Keeps b d → LooksAt c a d
+  looked_out c result a b d takes keeps = looked_on c a b d keeps (looked_at c result a b takes)
+
+  none_told : (a b : Option (Boxes S Pushed Replied)) → is_some b ≡ is_some a → a ≡ None → b ≡ None
+  none_told a None same none = refl
+  none_told None (Some b) same none = absurd (cc (same))
+  none_told (Some a) (Some b) same none = absurd (cc (none))
+
+  looked_since : (c : ℕ) (a b d : Seen S Pushed Replied) → Keeps a b → LooksAt c b d → LooksAt c a d
+  looked_since c a b d keeps looked none = elim (looked (none_told a.boxes b.boxes keeps.told none)) [
+    | inl less ↦ let more = keeps.looks (outbox c) in inl (omega arith)
+    | inr less ↦ let more = keeps.busies (outbox c) in inr (omega arith)
+  ]
+
+  -- one client more was looked at
+  pub looked_more : (n : ℕ) (a b d : Seen S Pushed Replied) → Keeps a b → Keeps b d → ((c : ℕ) → c < n → LooksAt c a b) → LooksAt n b d → (c : ℕ) → c < n + 1 → LooksAt c a d
+  looked_more n a b d first second before here = below_more (λ (c : ℕ). LooksAt c a d) n
+      (λ c less. looked_on c a b d second (before c less)) (looked_since n a b d first here)
 
 -- a server that took a push, or stayed as it was for want of memory
 pub took_grows : (push : Pushed) (server after : Serving) → (after ≡ server) ⊎ (after ≡ after_push push server) → IsPrefix server.joined.list after.joined.list

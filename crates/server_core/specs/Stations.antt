@@ -4,7 +4,7 @@ use Rattle.cloud_base.specs.declared.schedule.Fate.{Fate}
 use Rattle.cloud_base.specs.declared.schedule.Fate.TheVariants.{Pass, LosePush, LoseReply, Twice, Hold}
 use Rattle.cloud_base.specs.declared.update.Event.TheVariants.{Yield}
 use Rattle.slot_hub.specs.Runs.{Named, nowhere, two_clients}
-use Rattle.slot_hub.specs.Boxes.{Boxes, Seen}
+use Rattle.slot_hub.specs.Boxes.{Boxes, Seen, outbox}
 use Rattle.slot_hub.specs.Trades.{Keeps, Told, TradesOut, TradesIn}
 use Rattle.slot_hub.specs.declared.traits.Busy.{Busy}
 use Rattle.packet_codec.specs.Pushes.{Pushed}
@@ -158,6 +158,10 @@ module _ {S : Type 0} where
     pub keeps : Keeps old new
     pub took : new.took ≡ old.took
     pub taken : (k : ℕ) → new.taken k ≡ old.taken k
+
+  -- where the boxes aren't told, one trade more with the outbox of client c found it free or busy
+  abbrev pub LooksAt : ℕ → Seen S Pushed Replied → Seen S Pushed Replied → Type 0
+  LooksAt c old new = old.boxes ≡ None → (old.looks (outbox c) < new.looks (outbox c)) ⊎ (old.busies (outbox c) < new.busies (outbox c))
 
   -- no box but those of client c changes
   pub record OthersStay (c : ℕ) (old new : Boxes S Pushed Replied) : Type 0 where

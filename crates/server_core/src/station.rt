@@ -14,6 +14,7 @@ ghost use Rattle.server_core.specs.Stations.{
   IsHolding,
   IsHoldingOf,
   Leaves,
+  LooksAt,
   Passes,
   Releases,
   Serves,
@@ -407,6 +408,7 @@ impl<W: Weather> Station<W> {
         ensures grows { IsPrefix self.old.holding.server.joined.list
             self.new.holding.server.joined.list }
         ensures leaves { Leaves (H.seen hub.old) (H.seen hub.new) }
+        ensures looked { OnOk result (LooksAt client (H.seen hub.old) (H.seen hub.new)) }
     {
         match hub.trade_out(client, None) {
             Ok(Some(push)) => {
@@ -443,6 +445,8 @@ impl<W: Weather> Station<W> {
         ensures grows { IsPrefix self.old.holding.server.joined.list
             self.new.holding.server.joined.list }
         ensures leaves { Leaves (H.seen hub.old) (H.seen hub.new) }
+        ensures looked { OnOk result ((c : ℕ) → c < length self.old.holding.server.owns →
+            LooksAt c (H.seen hub.old) (H.seen hub.new)) }
     {
         let clients = self.clients();
         let mut count = 0;

@@ -3,7 +3,7 @@ use Rattle.std.specs.Prelude.{Bool}
 use Rattle.slot_hub.specs.Runs.{Named}
 use Rattle.server_core.specs.Stations.{IsHoldingOf, ServesOne, ServesWith}
 use Rattle.server_core.proofs.Drawn.{serves_taken, serves_untaken}
-use Rattle.server_core.proofs.Touching.{leaves_both, prefix_both}
+use Rattle.server_core.proofs.Touching.{leaves_both, looked_more, prefix_both}
 use Rattle.server_core.proofs.station.Station.serve_all.Goals as goal
 use Rattle.server_core.proofs.station.Station.serve_all.Goals.{then-branch, else-branch}
 
@@ -34,4 +34,5 @@ loop-client-preserved g c =
       of = subst (λ (run : Named). IsHoldingOf new.holding run) so.leaves.keeps.run c.serve_next.ensures.of;
       grows = prefix_both old.holding.server.joined.list mid.holding.server.joined.list new.holding.server.joined.list so.grows c.serve_next.ensures.grows;
       leaves = leaves_both before between after so.leaves c.serve_next.ensures.leaves;
+      looked = looked_more n before between after so.leaves.keeps c.serve_next.ensures.leaves.keeps so.looked c.in_ok-serve_next.ensures.looked;
     }

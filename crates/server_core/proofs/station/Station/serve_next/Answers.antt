@@ -5,6 +5,7 @@ use Rattle.packet_codec.specs.Pushes.{Pushed}
 use Rattle.packet_codec.specs.Runs.{push_of_run}
 use Rattle.server_core.specs.Weathers.{Draws}
 use Rattle.server_core.specs.Stations.{Holding, Handles, TakesOut, Takes, push_client}
+use Rattle.server_core.proofs.Touching.{looked_out}
 use Rattle.server_core.proofs.station.Station.serve_next.Goals as goal
 
 pub handle-requires-clause-push : goal.handle-requires-clause-push
@@ -34,3 +35,6 @@ returns-in-Ok-Some-clause-ok g c =
 
 pub returns-clause-ok : goal.returns-clause-ok
 returns-clause-ok g c = ((refl, inr (c.in-Err.field-0.holder, record { busy = c.in-Err.field-0; holder_is = refl; takes = c.in-Err.ensures })), refl)
+
+pub returns-in-Ok-Some-clause-looked : goal.returns-in-Ok-Some-clause-looked
+returns-in-Ok-Some-clause-looked g c = looked_out c.args.client (Ok c.in-Ok-Some.field-0) (g.H.Hub.seen c.args.hub.now) (g.H.Hub.seen c.trade_out.new.self) (g.H.Hub.seen c.handle.new.hub) c.in-Ok-Some.ensures c.handle.ensures.touches.leaves.keeps
