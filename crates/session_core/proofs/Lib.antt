@@ -7,4 +7,5 @@ mod Takes
 mod Meets
 mod Turning
 mod Halves
+mod Lasting
 mod Fetching

@@ -9,7 +9,7 @@ use Rattle.batch_joins.specs.Joins.{all_updates}
 use Rattle.schema_fj.specs.Held.{Held}
 use Rattle.schema_fj.specs.States.{StateStands}
 use Rattle.slot_hub.specs.Boxes.{Seen}
-use Rattle.slot_hub.specs.Trades.{TradesOut, TradesIn}
+use Rattle.slot_hub.specs.Trades.{Keeps, TradesOut, TradesIn}
 use Rattle.slot_hub.specs.declared.traits.Busy.{Busy}
 use Rattle.packet_codec.specs.Pushes.{Pushed, IsPush}
 use Rattle.packet_codec.specs.Replies.{Replied, IsReply}
@@ -91,6 +91,12 @@ module _ {S : Type 0} where
       → Seen S Pushed Replied → Seen S Pushed Replied → Type 0
   PutsOut c push result hub hub' = TradesOut (λ (p : Pushed). p.batch.client) push_of_run c
       (Some push) result hub hub'
+
+  -- no call of a session changes a hub's run, moves the server, or takes from another's inbox
+  pub record Leaves (c : ℕ) (old new : Seen S Pushed Replied) : Type 0 where
+    pub keeps : Keeps old new
+    pub took : new.took ≡ old.took
+    pub others : (k : ℕ) → k ≢ c → new.taken k ≡ old.taken k
 
   -- ---- the pull
 

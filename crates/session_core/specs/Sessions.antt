@@ -1,5 +1,6 @@
 -- What each call of a session does.
 use Rattle.std.specs.Prelude.{◌≡◌, ◌≢◌, ℕ, ◌+◌, ◌<◌, ◌^◌, List, [], ◌∷◌, ◌++◌, length, Option, Some, None, is_some, Bool, true, false}
+use mathlib.Core.List.{IsPrefix}
 use Rattle.cloud_base.specs.Answer.{answer}
 use Rattle.cloud_base.specs.Events.{updates_of, EndsAtMark}
 use Rattle.cloud_base.specs.Shaped.{CreatedOnce}
@@ -122,3 +123,12 @@ sends_at (Some b) s = s
 
 abbrev pub sends : Standing → Standing
 sends s = sends_at s.sent s
+
+-- a session later on: of the same client and schema, with all that its client did, behind what it
+-- had seen of the record and the batches that it had
+pub record IsLater (old new : Standing) : Type 0 where
+  pub schema : new.schema ≡ old.schema
+  pub client : new.client ≡ old.client
+  pub done : updates_done new ≡ updates_done old
+  pub past : IsPrefix old.past.list new.past.list
+  pub own : IsPrefix old.own.list new.own.list

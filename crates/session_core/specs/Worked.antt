@@ -11,7 +11,7 @@ use Rattle.front_table.specs.TokenView.{TokenView}
 use Rattle.slot_hub.specs.Runs.{nowhere}
 use Rattle.session_core.specs.declared.flushing.Flushing.TheVariants.{Closed, Marked, Sent}
 use Rattle.session_core.specs.Standings.{Standing, seen, tail_of}
-use Rattle.session_core.specs.Sessions.{noted, noted_at, sends, took}
+use Rattle.session_core.specs.Sessions.{IsLater, noted, noted_at, sends, took}
 
 abbrev adds : Update
 adds = Cell 0 [] (Add (pos 2))
@@ -69,3 +69,13 @@ pub example_flush : ((sends (noted_at Marked Flush fresh)).flush ≡ Sent) ×
     ((took nothing (sends (noted_at Marked Flush fresh))).flush ≡ Closed) ×
     ((took nothing (noted_at Marked Flush yielded)).flush ≡ Marked)
 example_flush = (refl, refl, refl)
+
+-- its client did the same, and has seen more, behind a turn
+pub example_later : IsLater yielded pulled
+example_later = record {
+  schema = refl;
+  client = refl;
+  done = refl;
+  past = (other ∷ first ∷ [], refl);
+  own = ([], refl);
+}

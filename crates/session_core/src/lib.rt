@@ -4,6 +4,7 @@
 mod events;
 mod flushing;
 mod inbox;
+mod laws;
 mod outbox;
 mod running;
 mod session;
@@ -11,5 +12,6 @@ mod steps;
 mod turns;
 
 pub use flushing::Flushing;
+pub use laws::events_come_last;
 pub use session::Session;
 pub use turns::{Half, Pull, PushOut, Starved, Turn, Yielded};

@@ -1,6 +1,6 @@
 // A client's session.
-ghost use Rattle.std.specs.Prelude.{◌≡◌, ◌≢◌, ◌<◌, ◌≤◌, ◌^◌, ◌⊎◌, ◌↔◌, [], ◌∷◌, ◌++◌, List, None};
-ghost use Rattle.std.specs.Prelude.{Some, IfOk, OnOk, IfErr, OnErr, IsTrue, is_some, length, true};
+ghost use Rattle.std.specs.Prelude.{◌≡◌, ◌≢◌, ◌<◌, ◌≤◌, ◌+◌, ◌^◌, ◌⊎◌, ◌↔◌, [], ◌∷◌, ◌++◌, List, None};
+ghost use Rattle.std.specs.Prelude.{Some, Ok, IfOk, OnOk, IfErr, OnErr, IsTrue, is_some, length, true};
 ghost use Rattle.std.specs.Option.{ForSome, option_map};
 ghost use Rattle.cloud_base.specs.Answer.{answer};
 ghost use Rattle.cloud_base.specs.Events.{EndsAtMark};
@@ -22,6 +22,7 @@ ghost use Rattle.session_core.specs.Standings.{
   tail_of,
 };
 ghost use Rattle.session_core.specs.Sessions.{
+  IsLater,
   IsOne,
   IsOpened,
   IsQuiet,
@@ -42,6 +43,7 @@ ghost use Rattle.session_core.specs.Meetings.{
   IsReady,
   IsRejoined,
   Joins,
+  Leaves,
   Pulls,
   Pushes,
   Readies,
@@ -553,6 +555,11 @@ impl Session {
         ensures err { IfErr result (λ starved. Starves self.old.stands
             (noted Events.Yield self.old.stands) self.new.stands starved.half
             (H.seen hub.old) (H.seen hub.new)) }
+        ensures of { is_of_run self.new.stands (H.seen hub.new).run }
+        ensures closed { self.new.stands.flush ≡ Closed }
+        ensures later { IsLater self.old.stands self.new.stands }
+        ensures rounds { length self.new.stands.own.list ≤ length self.old.stands.own.list + 1 }
+        ensures leaves { Leaves self.old.stands.client (H.seen hub.old) (H.seen hub.new) }
     {
         let Ok(pull) = self.yield_pull(hub) else {
             return Err(Starved { half: Half::Pull });
@@ -616,6 +623,11 @@ impl Session {
             (H.seen hub.old) (H.seen hub.new)) }
         ensures err { IfErr result (λ starved. Starves self.old.stands self.old.stands
             self.new.stands starved.half (H.seen hub.old) (H.seen hub.new)) }
+        ensures of { is_of_run self.new.stands (H.seen hub.new).run }
+        ensures closed { (self.new.stands.flush ≡ Closed) ↔ (result ≡ Ok Turn.Done) }
+        ensures later { IsLater self.old.stands self.new.stands }
+        ensures rounds { length self.new.stands.own.list ≤ length self.old.stands.own.list + 1 }
+        ensures leaves { Leaves self.old.stands.client (H.seen hub.old) (H.seen hub.new) }
     {
         let Ok(_) = self.flush_pull(hub) else {
             return Err(Starved { half: Half::Pull });
