@@ -1,0 +1,7 @@
+mod Serials
+mod Stretches
+mod Doing
+mod Needing
+mod Hubs
+mod Meeting
+mod Running
