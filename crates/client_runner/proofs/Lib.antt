@@ -5,3 +5,4 @@ mod Needing
 mod Hubs
 mod Meeting
 mod Running
+mod Ordered

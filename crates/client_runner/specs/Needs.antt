@@ -1,5 +1,6 @@
 -- What a code needs of its client, need by need.
 use Rattle.std.specs.Prelude.{◌≡◌, ℕ, List, [], ◌∷◌, ◌++◌, Some}
+use mathlib.Core.List.{IsPrefix}
 use Rattle.cloud_base.specs.Events.{Outcome, ended, asks, answers_in}
 use Rattle.cloud_base.specs.declared.update.Answer.{Answer}
 use Rattle.cloud_base.specs.declared.update.Event.{Event}
@@ -43,3 +44,13 @@ IsNext code client events Need.Yield = NeedsNext code client events event.Yield
 IsNext code client events Need.Flush = NeedsNext code client events event.Flush
 IsNext code client events (Need.Ended end) =
     ComesOut code client (answers_in events) (ended end) events
+
+-- where the code comes out so for these answers, with all of these events, the next need is the next
+-- event of those, or what comes out behind all of them
+abbrev pub IsNextOf : Need → Outcome → List Event → List Event → Type 0
+IsNextOf (Need.Do update) outcome whole events = IsPrefix (events ++ event.Do update ∷ []) whole
+IsNextOf (Need.Ask query) outcome whole events = (outcome ≡ asks query) × (whole ≡ events)
+IsNextOf (Need.Say value) outcome whole events = IsPrefix (events ++ event.Say value ∷ []) whole
+IsNextOf Need.Yield outcome whole events = IsPrefix (events ++ event.Yield ∷ []) whole
+IsNextOf Need.Flush outcome whole events = IsPrefix (events ++ event.Flush ∷ []) whole
+IsNextOf (Need.Ended end) outcome whole events = (outcome ≡ ended end) × (whole ≡ events)
