@@ -21,10 +21,10 @@ abbrev pub with_sent : ℕ → List Batch → Option Batch → List Batch
 with_sent c batches sent = batches ++ unjoined (of_client c batches) sent
 
 -- whether the record has it or not, and what it tells of client c and of others
-record Joined (c : ℕ) (batches : List Batch) (sent : Option Batch) : Type 0 where
-  mine : of_client c (with_sent c batches sent) ≡ of_client c batches ++ unjoined (of_client c batches) sent
-  none : unjoined (of_client c batches ++ unjoined (of_client c batches) sent) sent ≡ []
-  others : (k : ℕ) → k ≢ c → of_client k (with_sent c batches sent) ≡ of_client k batches
+pub record Joined (c : ℕ) (batches : List Batch) (sent : Option Batch) : Type 0 where
+  pub mine : of_client c (with_sent c batches sent) ≡ of_client c batches ++ unjoined (of_client c batches) sent
+  pub none : unjoined (of_client c batches ++ unjoined (of_client c batches) sent) sent ≡ []
+  pub others : (k : ℕ) → k ≢ c → of_client k (with_sent c batches sent) ≡ of_client k batches
 
 nothing_joins : (c : ℕ) (batches : List Batch) (sent : Option Batch) → unjoined (of_client c batches) sent ≡ [] → Joined c batches sent
 nothing_joins c batches sent none =
@@ -49,7 +49,7 @@ one_joins c batches b mine round =
       others = λ k other. ap (of_client k) whole ∙ of_client-other k batches b (λ e. other (sym e ∙ mine));
     }
 
-joins : (c : ℕ) (batches : List Batch) (sent : Option Batch) → ForSome sent (λ (b : Batch). b.client ≡ c) → Joined c batches sent
+pub joins : (c : ℕ) (batches : List Batch) (sent : Option Batch) → ForSome sent (λ (b : Batch). b.client ≡ c) → Joined c batches sent
 joins c batches None own = nothing_joins c batches None refl
 joins c batches (Some b) own = elim (cases_eq b.round (length (of_client c batches) + 1)) [
   | inl next ↦ one_joins c batches b (own b refl) next
@@ -421,3 +421,27 @@ pub pass_answers : (c : ℕ) (b : Batch) (w : World) → ((k : ℕ) → IsClient
     → IsAnswered c b.round (served c fate.Pass w)
 pass_answers c b w h sent is =
     subst (λ (out : Option ℕ). IsAnswered c b.round (served_out c fate.Pass out w)) (sym is) (handled_answers c b.round w h is ((h c).round b sent))
+
+-- a record with the outstanding batch of client c tells the same of each client's own batches
+pub own_longer : (c : ℕ) (sent : Option Batch) (batches batches' : List Batch) → ForSome sent (λ (b : Batch). b.client ≡ c) → Joins c sent batches batches'
+    → (k : ℕ) (tail : Tail) → (k ≡ c → tail.sent ≡ sent) → own_batches k batches' tail ≡ own_batches k batches tail
+own_longer c sent batches batches' own (inl same) k tail here = ap (λ (bs : List Batch). own_batches k bs tail) same
+own_longer c sent batches batches' own (inr more) k tail here =
+    let j = joins c batches sent own in
+    ap (λ (bs : List Batch). own_batches k bs tail) more ∙ elim (cases_eq k c) [
+      | inl e ↦
+          ap (λ (o : Option Batch). of_client k (with_sent c batches sent) ++ unjoined (of_client k (with_sent c batches sent)) o) (here e)
+          ∙ ap (λ (n : ℕ). of_client n (with_sent c batches sent) ++ unjoined (of_client n (with_sent c batches sent)) sent) e
+          ∙ ap (λ (l : List Batch). l ++ unjoined l sent) j.mine
+          ∙ ap (λ (l : List Batch). (of_client c batches ++ unjoined (of_client c batches) sent) ++ l) j.none
+          ∙ append-nil (of_client c batches ++ unjoined (of_client c batches) sent)
+          ∙ sym (ap (λ (n : ℕ). of_client n batches ++ unjoined (of_client n batches) sent) e)
+          ∙ sym (ap (λ (o : Option Batch). of_client k batches ++ unjoined (of_client k batches) o) (here e))
+      | inr other ↦ ap (λ (l : List Batch). l ++ unjoined l tail.sent) (j.others k other)
+    ]
+
+-- a serve leaves each client its own batches
+pub own_served : (c : ℕ) (fate : Fate) (w : World) → ((k : ℕ) → IsClientOf k w.batches (w.client k)) → (k : ℕ)
+    → own_batches k (served c fate w).batches (w.client k).tail ≡ own_batches k w.batches (w.client k).tail
+own_served c fate w h k = own_longer c (w.client c).tail.sent w.batches (served c fate w).batches (h c).own (served_keeps c fate w h).longer k (w.client k).tail
+    (λ e. ap (λ (j : ℕ). (w.client j).tail.sent) e)
