@@ -1,5 +1,5 @@
 mod Serials
-mod Stretches
+pub mod Stretches
 mod Doing
 mod Needing
 mod Hubs

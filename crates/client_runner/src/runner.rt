@@ -15,8 +15,8 @@ ghost use Rattle.client_runner.specs.Steps.{
 ghost use Rattle.client_runner.specs.Turned.{end_of, needs_after};
 
 use crate::client::Client;
-use crate::stepped::{Mode, Stepped, mode_after};
-use cloud_base::Memory;
+use crate::stepped::{Mode, Stepped, ended_in, mode_after};
+use cloud_base::{End, Memory};
 use code_machine::Machine;
 use packet_codec::{Push, Reply};
 use plain_vm::Code;
@@ -101,6 +101,13 @@ impl<'a> Runner<'a> {
         ensures { IsTrue result ↔ (self.now.stands.flush ≢ Closed) }
     {
         matches!(self.mode, Mode::Waits)
+    }
+
+    /// How its run ended, once it is over.
+    pub fn end(&self) -> Option<End>
+        ensures { result ≡ self.now.ended }
+    {
+        ended_in(self.mode)
     }
 
     /// One step: a client that waits in a flush goes on with that, and any other one has its next

@@ -1,6 +1,6 @@
 // How a step of a client comes out.
 ghost use Rattle.std.specs.Prelude.{◌≡◌};
-ghost use Rattle.client_runner.specs.Turned.{after_turn, mode_after};
+ghost use Rattle.client_runner.specs.Turned.{after_turn, ended_in, mode_after};
 
 use cloud_base::End;
 use session_core::Turn;
@@ -44,5 +44,15 @@ pub fn mode_after(stepped: Stepped) -> Mode
         Stepped::Went | Stepped::Yields => Mode::Goes,
         Stepped::Waits => Mode::Waits,
         Stepped::Ended(end) => Mode::Ended(end),
+    }
+}
+
+/// The end of a run that is over.
+pub fn ended_in(mode: Mode) -> Option<End>
+    ensures { result ≡ ended_in mode }
+{
+    match mode {
+        Mode::Goes | Mode::Waits => None,
+        Mode::Ended(end) => Some(end),
     }
 }
