@@ -1,0 +1,5 @@
+pub mod Acts
+pub mod Programs
+pub mod Rounds
+pub mod Steps
+pub mod Records
