@@ -1,0 +1,9 @@
+pub mod Lists
+pub mod Sights
+pub mod Places
+pub mod Hubs
+pub mod Pulling
+pub mod Pushing
+pub mod Flushes
+pub mod Meetings
+pub mod Stepping
