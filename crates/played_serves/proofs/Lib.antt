@@ -1,0 +1,4 @@
+pub mod Records
+pub mod Boxed
+pub mod Between
+pub mod Serving
