@@ -1,8 +1,8 @@
-mod Serials
+pub mod Serials
 pub mod Stretches
-mod Doing
-mod Needing
-mod Hubs
-mod Meeting
-mod Running
-mod Ordered
+pub mod Doing
+pub mod Needing
+pub mod Hubs
+pub mod Meeting
+pub mod Running
+pub mod Ordered
