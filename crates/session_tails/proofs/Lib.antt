@@ -1,0 +1,5 @@
+pub mod Flushes
+mod Over
+mod Tails
+mod Ids
+mod Rights
