@@ -3,3 +3,11 @@ pub mod Moving
 pub mod Telling
 pub mod Answered
 pub mod Little
+pub mod Sweeping
+pub mod Numbered
+pub mod Ends
+pub mod Beginning
+pub mod Leaving
+pub mod Drawn
+pub mod Ended
+pub mod Recorded

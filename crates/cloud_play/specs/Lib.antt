@@ -1,1 +1,3 @@
 pub mod Playings
+pub mod Openings
+pub mod Runs
