@@ -1,0 +1,7 @@
+mod Trees
+mod Pieces
+mod Scanned
+mod Spelled
+mod Limited
+mod Nested
+mod Kept

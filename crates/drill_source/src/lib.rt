@@ -1,0 +1,6 @@
+// The text of a drill is an accepted source.
+#![tactic(auto)]
+
+mod laws;
+
+pub use laws::drills_are_sources;
