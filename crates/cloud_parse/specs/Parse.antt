@@ -47,7 +47,6 @@ Keeps which.Height p = AllByRecursion IsLow p.clients
 Keeps which.Names p = names_count p.declarations ≤ most_names
 Keeps which.Clients p = length p.clients ≤ most_clients
 Keeps which.Steps p = steps_count p.schedule ≤ most_steps
-Keeps which.Form p = ⊤
 
 -- the program keeps the limits that stand before this one
 abbrev pub KeepsBefore : Which → Program → Type 0
@@ -59,7 +58,6 @@ KeepsBefore which.Height p = Keeps which.Number p × Keeps which.Text p
 KeepsBefore which.Names p = Keeps which.Number p × Keeps which.Text p × Keeps which.Height p
 KeepsBefore which.Clients p = Keeps which.Number p × Keeps which.Text p × Keeps which.Height p × Keeps which.Names p
 KeepsBefore which.Steps p = Keeps which.Number p × Keeps which.Text p × Keeps which.Height p × Keeps which.Names p × Keeps which.Clients p
-KeepsBefore which.Form p = ⊤
 
 -- the first limit that the text's program breaks
 pub record BreaksFirst (w : Which) (text : List ℕ) : Type 0 where
@@ -73,7 +71,6 @@ pub record BreaksFirst (w : Which) (text : List ℕ) : Type 0 where
 abbrev pub TellsLimit : Which → List ℕ → Type 0
 TellsLimit which.Bytes text = most_source_bytes < length text
 TellsLimit which.Brackets text = (length text ≤ most_source_bytes) × (most_brackets < most_open 0 (tokens_of (scan text).tokens))
-TellsLimit which.Form text = ⊥
 TellsLimit w text = BreaksFirst w text
 
 -- the first that is wrong with tokens that spell a program: a limit that it breaks

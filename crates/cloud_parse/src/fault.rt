@@ -25,8 +25,6 @@ pub enum Which {
     Clients,
     /// A schedule whose numbers add up to more than 100,000.
     Steps,
-    /// A program that `play` doesn't run yet. `parse` never tells it.
-    Form,
 }
 
 /// Why a text isn't parsed.

@@ -1,23 +1,26 @@
 -- What reading a tree and what a call promise, from what their parts did.
-use Rattle.std.proofs.Common.{◌≡◌, ◌∙◌, ℕ, List, [], ◌∷◌, refl, sym, ap, subst, inl, inr, lit≤}
-use Rattle.std.specs.Prelude.{Bool, true, false, ◌&&◌, is_some, is_none, Option, Some, None, Ok, Err, slice_get}
-use Rattle.std.proofs.lemmas.Bool.{true≢false}
+use Rattle.std.proofs.Common.{◌≡◌, ◌∙◌, ℕ, zero, suc, ◌<◌, List, [], ◌∷◌, length, refl, sym, ap, subst, inl, inr, lit≤}
+use Rattle.std.specs.Prelude.{◌^◌, Option, Some, None, Ok, Err, slice_get, slice_index_or}
 use Rattle.cloud_base.specs.Causes.{Rose}
 use Rattle.cloud_parse.specs.Parse.{ParseAnswers}
 use Rattle.cloud_parse.specs.declared.fault.ParseFault.TheVariants as fault
 use Rattle.cloud_parse.specs.declared.fault.Which.{Which}
-use Rattle.cloud_parse.specs.declared.fault.Which.TheVariants as which
 use Rattle.cloud_parse.specs.declared.parsed.Parsed.{Parsed}
 use Rattle.typed_program.specs.Programs.{IsProgram}
 use Rattle.typed_program.specs.declared.program.Parts.{Parts}
 use Rattle.kind_bodies.specs.declared.fault.KindFault.TheVariants as kind
 use Rattle.kind_check.specs.KindAnswers.{KindAnswers}
-use Rattle.revision_diagram.specs.Headline.{Headline}
-use Rattle.revision_diagram.specs.Meeting.{below_server}
-use Rattle.step_text.specs.Legible.{Told}
 use Rattle.step_text.specs.Text.{report_text}
 use Rattle.cloud_base.specs.Shaped.{IsSchema}
+use Rattle.cloud_base.specs.Answer.{answer}
+use Rattle.cloud_base.specs.Events.{Outcome, answers_in}
+use Rattle.cloud_base.specs.declared.batch.Batch.{Batch}
+use Rattle.cloud_base.specs.declared.batch.Tail.{Tail}
 use Rattle.cloud_base.specs.declared.end.End.{End}
+use Rattle.cloud_base.specs.declared.schedule.ScheduleItem.{ScheduleItem}
+use Rattle.cloud_base.specs.declared.update.Answer.{Answer}
+use Rattle.cloud_base.specs.declared.update.Query.{Query}
+use Rattle.cloud_base.specs.declared.update.Update.{Update}
 use Rattle.cloud_base.specs.declared.schema.Schema.{Schema}
 use Rattle.cloud_base.specs.declared.update.Event.{Event}
 use Rattle.typed_program.specs.Kinds.{IsBody}
@@ -26,9 +29,19 @@ use Rattle.typed_program.proofs.Shaped.{all_at}
 use Rattle.code_gen.specs.Compile.{code_of}
 use Rattle.code_gen.specs.Listings.{listing_of}
 use Rattle.code_gen.specs.Meaning.{Means}
-use Rattle.one_client.specs.Form.{is_playable}
-use Rattle.one_client.specs.Program.{Plays, Reports, traces}
-use Rattle.one_client.specs.Steps.{steps_of}
+use Rattle.typed_program.specs.Trace.{trace}
+use Rattle.batch_history.specs.Batches.{did}
+use Rattle.batch_history.specs.Flushed.{Flushed, Traced}
+use Rattle.batch_history.specs.Right.{AnsweredRight}
+use Rattle.batch_history.specs.Sound.{SoundRecord}
+use Rattle.record_diagram.specs.Steps.{steps_of}
+use Rattle.diagram_text.specs.Programs.{Reports}
+use Rattle.diagram_text.specs.Programs as drawn
+use Rattle.diagram_text.specs.declared.history.Record.{Record}
+use Rattle.played_record.specs.Plays.{IsPlayed}
+use Rattle.played_record.specs.Programs.{trace_by}
+use Rattle.played_record.specs.Programs as played
+use Rattle.cloud_play.specs.Runs.{IsRunOf}
 use Rattle.cloud_run.specs.declared.command.Command.{Command}
 use Rattle.cloud_run.specs.declared.command.Command.TheVariants.{Check, Code, Play}
 use Rattle.cloud_run.specs.declared.flows.ReadError.TheVariants as error
@@ -36,44 +49,62 @@ use Rattle.cloud_run.specs.declared.status.Status.{Status}
 use Rattle.cloud_run.specs.declared.status.Status.TheVariants as status
 use Rattle.cloud_run.specs.Flows.{HandedOut, Got, GotPart, ReadsAll, most_read}
 use Rattle.cloud_run.specs.Runs.{ReadsTree, Runs}
-use Rattle.cloud_run.specs.Top.{program_of, KeepsKinds, LeftTyped, ReportsRun, ListsCodes, IsLawfulText, WritesLawful, takes, TextOf}
-use Rattle.cloud_run.proofs.Judged.{OneAnswer, TokensFit, reads, left_parsed, left_done, left_form, left_kind, left_limit, left_syntax, limit_ended, judges_read_fault, judges_memory, judges_write_fault, writes_nothing, not_done, not_words, not_write_fault, form_refused, kind_refused, refused_accepted}
+use Rattle.cloud_run.specs.Top.{program_of, KeepsKinds, LeftTyped, ReportsRun, ListsCodes, IsLawfulText, WritesLawful, IsReport, TextOf}
+use Rattle.cloud_run.proofs.Judged.{OneAnswer, TokensFit, reads, left_parsed, left_done, left_kind, left_limit, left_syntax, limit_ended, judges_read_fault, judges_memory, judges_write_fault, writes_nothing, not_done, not_words, not_write_fault, kind_refused, refused_accepted}
 
 -- where nothing was read all is left
 pub handed_nothing : (left : Option (List ℕ)) → HandedOut most_read left left
 handed_nothing None = refl
 handed_nothing (Some bytes) = (0, lit≤ tt, refl)
 
--- the laws of runs of one client
-abbrev pub RunsLawful : Type 0
-RunsLawful = (p : Parts) (events : List Event) (end : End) → is_playable p.bodies ≡ true → Plays p events end → Headline p.schema below_server (traces p) (end ∷ []) (steps_of events)
+-- the law of reports of records
+abbrev pub ReportsTell : Type 0
+ReportsTell = (p : Parts) (batches : List Batch) (tails : List Tail) (ends : List End) → IsProgram p → length p.names ≡ length tails → length batches < 2 ^ 30
+    → SoundRecord batches tails ends → AnsweredRight (answer p.schema) batches tails → Flushed batches tails → Traced (drawn.trace_of p) batches tails ends
+    → Reports p (steps_of batches tails) ends
 
-abbrev pub RunsTold : Type 0
-RunsTold = (p : Parts) (events : List Event) (end : End) → IsProgram p → is_playable p.bodies ≡ true → Plays p events end → Told p.schema p.names (steps_of events) (end ∷ [])
+-- a client that has no body does nothing
+no_body : (client n : ℕ) (bodies : List (List Statement)) (given : List Answer) → trace_by client (slice_get bodies n) given ≡ trace client (slice_index_or bodies n []) given
+no_body client n [] given = refl
+no_body client zero (body ∷ bodies) given = refl
+no_body client (suc n) (body ∷ bodies) given = no_body client n bodies given
+
+traced : (p : Parts) (batches : List Batch) (tails : List Tail) (ends : List End) → Traced (played.trace_of p) batches tails ends → Traced (drawn.trace_of p) batches tails ends
+traced p batches tails ends h c end is = sym (no_body c c p.bodies (answers_in (did batches tails c))) ∙ h c end is
 
 -- the report of a program's run is lawful
-pub reports_run : (p q : Parts) (text : List ℕ) → RunsLawful → RunsTold → p ≡ q → IsProgram p → is_playable p.bodies ≡ true → Reports p text → ReportsRun q text
-reports_run p q text headline told same is playable r = subst (λ (x : Parts). ReportsRun x text) same (record {
-  steps = steps_of r.events;
-  ends = r.end ∷ [];
-  lawful = headline p r.events r.end playable r.plays;
-  report = r.written;
-  told = told p r.events r.end is playable r.plays;
-})
+pub reports_run : (p q : Parts) (history : Record) (text : List ℕ) → ReportsTell → p ≡ q → IsProgram p → IsRunOf p history
+    → text ≡ report_text p.schema p.names (steps_of history.batches history.tails) history.ends → ReportsRun q text
+reports_run p q history text tell same is run written =
+    let its = tell p history.batches history.tails history.ends is run.clients run.drawable.few_batches run.sound run.right run.flushed
+    (traced p history.batches history.tails history.ends run.traced) in
+    subst (λ (x : Parts). ReportsRun x text) same (record {
+      steps = steps_of history.batches history.tails;
+      ends = history.ends;
+      lawful = its.headline;
+      report = written;
+      told = its.told;
+    })
 
--- a run comes out in one way, and so does the text of a command
-abbrev pub RunsOnce : Type 0
-RunsOnce = (p : Parts) (events events' : List Event) (end end' : End) → Plays p events end → Plays p events' end' → (events ≡ events') × (end ≡ end')
+-- the law of played runs
+abbrev pub PlaysOnce : Type 0
+PlaysOnce = (answers : List Update → Query → Answer) (trace : ℕ → List Answer → List Event × Outcome) (schedule : List ScheduleItem) (n : ℕ)
+    (batches others : List Batch) (tails other_tails : List Tail) (ends other_ends : List End)
+    → IsPlayed answers trace schedule n batches tails ends → IsPlayed answers trace schedule n others other_tails other_ends
+    → (batches ≡ others) × (tails ≡ other_tails) × (ends ≡ other_ends)
 
-pub one_text : RunsOnce → (command : Command) (source : Parsed) (a b : List ℕ) → TextOf command source a → TextOf command source b → a ≡ b
-one_text once Check source a b h k = h.1 ∙ sym k.1
-one_text once Code source a b h k = h.1 ∙ sym k.1
+-- a run is played in one way, and so a command has one text
+pub one_text : PlaysOnce → (command : Command) (source : Parsed) (a b : List ℕ) → TextOf command source a → TextOf command source b → a ≡ b
+one_text once Check source a b h k = h ∙ sym k
+one_text once Code source a b h k = h ∙ sym k
 one_text once Play source a b h k =
     let p = program_of source in
-    let r = h.1 in
-    let s = k.1 in
-    let same = once p r.events s.events r.end s.end r.plays s.plays in
-    r.written ∙ ap (λ es. report_text p.schema p.names (steps_of es) (r.end ∷ [])) same.0 ∙ ap (λ end. report_text p.schema p.names (steps_of s.events) (end ∷ [])) same.1 ∙ sym s.written
+    let same = once (answer p.schema) (played.trace_of p) p.schedule (length p.bodies) h.batches k.batches h.tails k.tails h.ends k.ends h.played k.played in
+    h.written
+    ∙ ap (λ (l : List Batch). report_text p.schema p.names (steps_of l h.tails) h.ends) same.0
+    ∙ ap (λ (l : List Tail). report_text p.schema p.names (steps_of k.batches l) h.ends) same.1
+    ∙ ap (report_text p.schema p.names (steps_of k.batches k.tails)) same.2
+    ∙ sym k.written
 
 -- the law of compiled bodies
 abbrev pub CodesMean : Type 0
@@ -88,44 +119,17 @@ lists_codes p q text means same is listed = subst (λ (x : Parts). ListsCodes x 
 
 -- the text of a listing
 pub listing_text : (source : Parsed) (p : Parts) (text : List ℕ) → p ≡ program_of source → text ≡ listing_of p → TextOf Code source text
-listing_text source p text same is = (refl, is ∙ ap listing_of same)
-
-none_by : {X : Type 0} (s : Option X) → is_some s ≡ false → is_none s ≡ true
-none_by None h = refl
-none_by (Some x) h = absurd (true≢false h)
-
-some_by : {X : Type 0} (s : Option X) → is_some s ≡ true → is_none s ≡ false
-some_by None h = absurd (true≢false (sym h))
-some_by (Some x) h = refl
-
-and_both : (a b : Bool) → a ≡ true → b ≡ true → (a && b) ≡ true
-and_both true b h k = k
-and_both false b h k = h
-
-and_first : (a b : Bool) → a ≡ false → (a && b) ≡ false
-and_first true b h = absurd (true≢false h)
-and_first false b h = refl
-
-and_second : (a b : Bool) → b ≡ false → (a && b) ≡ false
-and_second true b h = h
-and_second false b h = refl
+listing_text source p text same is = is ∙ ap listing_of same
 
 -- the text of a report
-pub played_text : (source : Parsed) (p : Parts) (text : List ℕ) → p ≡ program_of source → is_some source.tree.schedule ≡ false → is_playable p.bodies ≡ true → Reports p text → TextOf Play source text
-played_text source p text same none playable r =
-    let here : is_playable (program_of source).bodies ≡ true = subst (λ (x : Parts). is_playable x.bodies ≡ true) same playable in
-    (and_both (is_none source.tree.schedule) (is_playable (program_of source).bodies) (none_by source.tree.schedule none) here, subst (λ (x : Parts). Reports x text) same r)
-
--- `play` takes no source with a schedule, and none whose program isn't playable
-pub scheduled_not : (source : Parsed) → is_some source.tree.schedule ≡ true → takes Play source ≡ false
-scheduled_not source h = and_first (is_none source.tree.schedule) (is_playable (program_of source).bodies) (some_by source.tree.schedule h)
-
-pub unplayable_not : (source : Parsed) (p : Parts) → p ≡ program_of source → is_playable p.bodies ≡ false → takes Play source ≡ false
-unplayable_not source p same h = and_second (is_none source.tree.schedule) (is_playable (program_of source).bodies) (subst (λ (x : Parts). is_playable x.bodies ≡ false) same h)
+pub played_text : (source : Parsed) (p : Parts) (history : Record) (text : List ℕ) → p ≡ program_of source → IsRunOf p history
+    → text ≡ report_text p.schema p.names (steps_of history.batches history.tails) history.ends → TextOf Play source text
+played_text source p history text same run written =
+    subst (λ (x : Parts). IsReport x text) same (record { batches = history.batches; tails = history.tails; ends = history.ends; played = run.played; written = written })
 
 pub ruleset listed = (lists_codes, listing_text)
 
-pub ruleset played = (reports_run, played_text, scheduled_not, unplayable_not)
+pub ruleset reported = (reports_run, played_text)
 
 -- what was made lawfully is written lawfully
 pub writes_lawful : (command : Command) (left held now : Option (List ℕ)) (parsed : Parsed) (text : List ℕ) → LeftTyped left parsed → IsLawfulText command parsed text → Got held now text → WritesLawful (Some command) left held now
@@ -276,24 +280,6 @@ module _ {S K : Type 0} (left : S → Option (List ℕ)) (faults ends : S → �
         complete = λ accepted no_fault no_sink_fault. inr refl;
       }
 
-      -- a program that the command doesn't take
-      pub not_in_form : (sink : K) → OneAnswer → KeepsKinds parsed → takes command parsed ≡ false → Runs left faults ends holds sink_faults (Some command) (status.Limit which.Form) source source' sink sink
-      not_in_form sink one keeps none = record {
-        words = (λ is. cc, λ none. cc);
-        unread = λ is. cc;
-        read_fault = λ is. cc;
-        no_read_fault = λ no. r.no_read_fault (λ is. cc);
-        write_fault = λ is. cc;
-        no_write_fault = λ no. refl;
-        judged = left_form command (left source) parsed r.tree keeps none;
-        ended = r.seen;
-        handed = r.handed;
-        written = refl;
-        silent = λ not_done not_fault. refl;
-        lawful = λ is. cc;
-        complete = λ accepted no_fault no_sink_fault. absurd (form_refused one command (left source) (left_form command (left source) parsed r.tree keeps none) accepted);
-      }
-
       -- a source that breaks a rule of kinds
       pub breaks_rule : (rule line : ℕ) (sink : K) → OneAnswer → KindAnswers parsed (Err (kind.Rule rule line)) → Runs left faults ends holds sink_faults (Some command) (status.Kind rule line) source source' sink sink
       breaks_rule rule line sink one told = record {
@@ -322,7 +308,7 @@ module _ {S K : Type 0} (left : S → Option (List ℕ)) (faults ends : S → �
         no_read_fault = λ no. r.no_read_fault (λ is. cc);
         write_fault = λ is. cc;
         no_write_fault = λ no. stands;
-        judged = left_done command (left source) parsed r.tree keeps makes.0;
+        judged = left_done command (left source) parsed r.tree keeps;
         ended = r.seen;
         handed = r.handed;
         written = (parsed, text, (r.tree, keeps), makes, r.end, got);
@@ -341,7 +327,7 @@ module _ {S K : Type 0} (left : S → Option (List ℕ)) (faults ends : S → �
         no_read_fault = λ no. r.no_read_fault (λ is. cc);
         write_fault = λ is. rose;
         no_write_fault = λ no. absurd (no refl);
-        judged = judges_write_fault command (left source) (left_done command (left source) parsed r.tree keeps makes.0);
+        judged = judges_write_fault command (left source) (left_done command (left source) parsed r.tree keeps);
         ended = r.seen;
         handed = r.handed;
         written = (parsed, text, (r.tree, keeps), makes, r.end, got);

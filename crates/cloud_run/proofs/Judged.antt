@@ -1,7 +1,6 @@
 -- Laws of what each status says of a source.
 use Rattle.std.proofs.Common.{◌≡◌, ◌≢◌, ℕ, ◌<◌, ◌≤◌, List, [], ◌++◌, length, refl, sym, ap, ◌∙◌, append-nil, length-append, subst, arith, inl, inr}
-use Rattle.std.specs.Prelude.{true, false, Option, Some, None, Result, Ok, Err, ◌⊎◌, IsTrue}
-use Rattle.std.proofs.lemmas.Bool.{true≢false}
+use Rattle.std.specs.Prelude.{Option, Some, None, Result, Ok, Err, ◌⊎◌, IsTrue}
 use Rattle.std.specs.List.{AllByRecursion}
 use Rattle.cloud_base.specs.Causes.{Rose}
 use Rattle.source_tokens.specs.Scans.{scan, tokens_of, IsToken}
@@ -23,7 +22,7 @@ use Rattle.kind_bodies.specs.declared.fault.KindFault.TheVariants as kind
 use Rattle.kind_rules.specs.Answers.{first_fault}
 use Rattle.kind_rules.specs.Programs.{items_of}
 use Rattle.kind_check.specs.KindAnswers.{KindAnswers}
-use Rattle.cloud_run.specs.Top.{KeepsKinds, takes, Accepts, Judges, JudgesLeft, EndSeen, LeftParsed, Writes, Accepted}
+use Rattle.cloud_run.specs.Top.{KeepsKinds, Accepts, JudgesLeft, EndSeen, LeftParsed, Writes, Accepted}
 
 -- the law of parsing: two answers of a text other than want of memory are one
 abbrev pub OneAnswer : Type 0
@@ -53,15 +52,10 @@ left_parsed fit None after taken parsed p e said = is_tree fit taken parsed said
 left_parsed fit (Some bytes) None taken parsed p e said = absurd p
 left_parsed fit (Some bytes) (Some rest) taken parsed p e said = subst (λ text. ParseAnswers text (Ok parsed)) (whole bytes taken rest p e) said
 
--- what is parsed and taken by a command is accepted
-pub left_done : (command : Command) (left : Option (List ℕ)) (parsed : Parsed) → LeftParsed left parsed → KeepsKinds parsed → takes command parsed ≡ true → JudgesLeft (Some command) status.Done left
-left_done command None parsed said keeps taken = tt
-left_done command (Some bytes) parsed said keeps taken = (parsed, said, keeps, taken)
-
--- what is parsed and not taken by a command isn't in its form
-pub left_form : (command : Command) (left : Option (List ℕ)) (parsed : Parsed) → LeftParsed left parsed → KeepsKinds parsed → takes command parsed ≡ false → JudgesLeft (Some command) (status.Limit which.Form) left
-left_form command None parsed said keeps none = tt
-left_form command (Some bytes) parsed said keeps none = (parsed, said, keeps, none)
+-- what is parsed and keeps the rules of kinds is accepted
+pub left_done : (command : Command) (left : Option (List ℕ)) (parsed : Parsed) → LeftParsed left parsed → KeepsKinds parsed → JudgesLeft (Some command) status.Done left
+left_done command None parsed said keeps = tt
+left_done command (Some bytes) parsed said keeps = (parsed, said, keeps)
 
 -- what is parsed and breaks a rule of kinds
 pub left_kind : (command : Command) (rule line : ℕ) (left : Option (List ℕ)) (parsed : Parsed) → LeftParsed left parsed → KindAnswers parsed (Err (kind.Rule rule line)) → JudgesLeft (Some command) (status.Kind rule line) left
@@ -78,32 +72,6 @@ few which.Height text said = inr said.readable.bytes
 few which.Names text said = inr said.readable.bytes
 few which.Clients text said = inr said.readable.bytes
 few which.Steps text said = inr said.readable.bytes
-few which.Form text said = absurd said
-
--- a limit that parsing tells is what the status says
-limit_judged : (command : Command) (w : Which) (text : List ℕ) → ParseAnswers text (Err (fault.Limit w)) → Judges command (status.Limit w) text
-limit_judged command which.Bytes text said = said
-limit_judged command which.Brackets text said = said
-limit_judged command which.Number text said = said
-limit_judged command which.Text text said = said
-limit_judged command which.Height text said = said
-limit_judged command which.Names text said = said
-limit_judged command which.Clients text said = said
-limit_judged command which.Steps text said = said
-limit_judged command which.Form text said = absurd said
-
--- and the other way round, but for the form
-judged_limit : (command : Command) (w : Which) (text : List ℕ) → Judges command (status.Limit w) text
-    → ParseAnswers text (Err (fault.Limit w)) ⊎ ((parsed : Parsed) × ParseAnswers text (Ok parsed) × KeepsKinds parsed × (takes command parsed ≡ false))
-judged_limit command which.Bytes text said = inl said
-judged_limit command which.Brackets text said = inl said
-judged_limit command which.Number text said = inl said
-judged_limit command which.Text text said = inl said
-judged_limit command which.Height text said = inl said
-judged_limit command which.Names text said = inl said
-judged_limit command which.Clients text said = inl said
-judged_limit command which.Steps text said = inl said
-judged_limit command which.Form text said = inr said
 
 -- a limit that what was taken breaks is one that the whole text breaks
 pub left_limit : (command : Command) (w : Which) (left after : Option (List ℕ)) (taken : List ℕ) → Parts left after taken → (length taken ≤ most_source_bytes → AtEnd after)
@@ -114,8 +82,8 @@ left_limit command w (Some bytes) (Some rest) taken p e said = elim (few w taken
   | inl is ↦
       let long : most_source_bytes < length taken = subst (λ v. TellsLimit v taken) is said in
       let told : ParseAnswers bytes (Err (fault.Limit which.Bytes)) = omega (arith, long, ap length p, length-append taken rest) in
-      limit_judged command w bytes (subst (λ v. ParseAnswers bytes (Err (fault.Limit v))) (sym is) told)
-  | inr short ↦ limit_judged command w bytes (subst (λ text. ParseAnswers text (Err (fault.Limit w))) (whole bytes taken rest p (e short)) said)
+      subst (λ v. ParseAnswers bytes (Err (fault.Limit v))) (sym is) told
+  | inr short ↦ subst (λ text. ParseAnswers text (Err (fault.Limit w))) (whole bytes taken rest p (e short)) said
 ]
 
 -- the place of a syntax fault is that in the whole text
@@ -136,7 +104,6 @@ limit_ended command which.Height before now taken seen unseen said = seen said.r
 limit_ended command which.Names before now taken seen unseen said = seen said.readable.bytes
 limit_ended command which.Clients before now taken seen unseen said = seen said.readable.bytes
 limit_ended command which.Steps before now taken seen unseen said = seen said.readable.bytes
-limit_ended command which.Form before now taken seen unseen said = absurd said
 
 -- a read fault and want of memory say nothing of the text
 pub judges_read_fault : (command : Command) (left : Option (List ℕ)) → JudgesLeft (Some command) status.ReadFault left
@@ -179,38 +146,20 @@ answers parsed = Ok parsed
 abbrev refuses : ParseFault → Result Parsed ParseFault
 refuses f = Err f
 
--- what a command doesn't take it doesn't accept
-not_taken : OneAnswer → (command : Command) (text : List ℕ) → Accepts command text → ((parsed : Parsed) × ParseAnswers text (Ok parsed) × KeepsKinds parsed × (takes command parsed ≡ false)) → ⊥
-not_taken one command text (parsed, said, keeps, taken) (other, told, kept, none) =
-    let same : answers other ≡ answers parsed = one text (answers other) (answers parsed) told said (λ e. cc) (λ e. cc) in
-    let is : other ≡ parsed = cc same in
-    true≢false (sym taken ∙ subst (λ (p : Parsed). takes command p ≡ false) is none)
-
 -- a source that breaks a rule of kinds isn't accepted
 pub kind_refused : OneAnswer → (command : Command) (rule line : ℕ) (left : Option (List ℕ)) → JudgesLeft (Some command) (status.Kind rule line) left → Accepted (Some command) left → ⊥
 kind_refused one command rule line None j a = a
-kind_refused one command rule line (Some text) (other, told, breaks) (parsed, said, keeps, taken) =
+kind_refused one command rule line (Some text) (other, told, breaks) (parsed, said, keeps) =
     let same : answers other ≡ answers parsed = one text (answers other) (answers parsed) told said (λ e. cc) (λ e. cc) in
     let is : other ≡ parsed = cc same in
     let none : None ≡ Some (record { rule = rule; line = line }) = sym keeps ∙ subst (λ (p : Parsed). first_fault (items_of p.tree p.lines) ≡ Some (record { rule = rule; line = line })) is breaks in
     absurd (cc none)
 
 -- what breaks a limit, or has no program, isn't accepted
-not_told : OneAnswer → (command : Command) (text : List ℕ) (f : ParseFault) → Accepts command text → ParseAnswers text (Err f) → f ≢ fault.Memory → ⊥
-not_told one command text f (parsed, said, keeps, taken) told differs =
+not_told : OneAnswer → (text : List ℕ) (f : ParseFault) → Accepts text → ParseAnswers text (Err f) → f ≢ fault.Memory → ⊥
+not_told one text f (parsed, said, keeps) told differs =
     let same : answers parsed ≡ refuses f = one text (answers parsed) (refuses f) said told (λ e. cc) (λ e. differs cc) in
     cc same
-
-limit_refused : OneAnswer → (command : Command) (w : Which) (text : List ℕ) → Judges command (status.Limit w) text → Accepts command text → ⊥
-limit_refused one command w text j a = elim (judged_limit command w text j) [
-  | inl told ↦ not_told one command text (fault.Limit w) a told (λ e. cc)
-  | inr told ↦ not_taken one command text a told
-]
-
--- a text that the command doesn't take isn't accepted
-pub form_refused : OneAnswer → (command : Command) (left : Option (List ℕ)) → JudgesLeft (Some command) (status.Limit which.Form) left → Accepted (Some command) left → ⊥
-form_refused one command None j a = a
-form_refused one command (Some text) j a = not_taken one command text a j
 
 -- an accepted text is refused before writing only by a fault or for want of memory
 pub refused_accepted : OneAnswer → (command : Command) (s : Status) (left : Option (List ℕ)) → IsReadRefusal s → JudgesLeft (Some command) s left → Accepted (Some command) left → s ≢ status.ReadFault
@@ -220,7 +169,7 @@ refused_accepted one command status.Done (Some text) r j a n = absurd r
 refused_accepted one command status.Words (Some text) r j a n = absurd r
 refused_accepted one command status.ReadFault (Some text) r j a n = absurd (n refl)
 refused_accepted one command status.WriteFault (Some text) r j a n = absurd r
-refused_accepted one command (status.Syntax line column) (Some text) r j a n = absurd (not_told one command text (fault.Syntax line column) a j (λ e. cc))
+refused_accepted one command (status.Syntax line column) (Some text) r j a n = absurd (not_told one text (fault.Syntax line column) a j (λ e. cc))
 refused_accepted one command (status.Kind rule line) (Some text) r j a n = absurd r
-refused_accepted one command (status.Limit w) (Some text) r j a n = absurd (limit_refused one command w text j a)
+refused_accepted one command (status.Limit w) (Some text) r j a n = absurd (not_told one text (fault.Limit w) a j (λ e. cc))
 refused_accepted one command status.Memory (Some text) r j a n = inr refl

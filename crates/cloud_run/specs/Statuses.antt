@@ -25,7 +25,6 @@ limit_name which.Height = codes "Height"
 limit_name which.Names = codes "Names"
 limit_name which.Clients = codes "Clients"
 limit_name which.Steps = codes "Steps"
-limit_name which.Form = codes "Form"
 
 abbrev pub status_line : Status → List ℕ
 status_line status.Done = []
@@ -38,7 +37,7 @@ status_line (status.Limit w) = codes "limit " ++ limit_name w
 status_line status.Memory = codes "memory"
 
 -- a text that breaks a limit says which
-pub example_limit : (status_number (status.Limit which.Form) ≡ 6) × (status_line (status.Limit which.Form) ≡ codes "limit Form") × (status_line (status.Limit which.Bytes) ≡ codes "limit Bytes")
+pub example_limit : (status_number (status.Limit which.Steps) ≡ 6) × (status_line (status.Limit which.Steps) ≡ codes "limit Steps") × (status_line (status.Limit which.Bytes) ≡ codes "limit Bytes")
 example_limit = (refl, refl, refl)
 
 -- a text that no program has says where

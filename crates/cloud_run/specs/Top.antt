@@ -1,7 +1,9 @@
 -- What a command reads and writes, by its status.
-use Rattle.std.specs.Prelude.{◌≡◌, refl, ℕ, ◌≤◌, ⊤, Bool, true, false, ◌&&◌, is_none, List, [], ◌∷◌, length, Option, Some, None, Ok, Err, codes, slice_get}
+use Rattle.std.specs.Prelude.{◌≡◌, refl, ℕ, ◌≤◌, ⊤, List, [], ◌∷◌, length, Option, Some, None, Ok, Err, codes, slice_get}
 use Rattle.std.proofs.Common.{lit≤, not-suc-le-zero}
 use Rattle.cloud_base.specs.Causes.{Rose}
+use Rattle.cloud_base.specs.declared.batch.Batch.{Batch}
+use Rattle.cloud_base.specs.declared.batch.Tail.{Tail}
 use Rattle.cloud_base.specs.declared.end.End.{End}
 use Rattle.source_tokens.specs.Lexemes.{lexeme_at}
 use Rattle.source_tokens.specs.Scans.{scan_behind}
@@ -31,8 +33,9 @@ use Rattle.step_text.specs.Legible.{Told}
 use Rattle.step_text.specs.Text.{report_text}
 use Rattle.revision_diagram.specs.Headline.{Headline}
 use Rattle.revision_diagram.specs.Meeting.{below_server}
-use Rattle.one_client.specs.Form.{is_playable}
-use Rattle.one_client.specs.Program.{traces, Reports}
+use Rattle.record_diagram.specs.Steps.{steps_of}
+use Rattle.diagram_text.specs.Programs.{traces}
+use Rattle.played_record.specs.Programs.{Played}
 use Rattle.cloud_run.specs.declared.command.Command.{Command}
 use Rattle.cloud_run.specs.declared.command.Command.TheVariants.{Check, Code, Play}
 use Rattle.cloud_run.specs.declared.status.Status.{Status}
@@ -47,47 +50,43 @@ program_of source = typed source.tree source.lines
 abbrev pub KeepsKinds : Parsed → Type 0
 KeepsKinds source = first_fault (items_of source.tree source.lines) ≡ None
 
--- Whether a command takes a parsed source that keeps the rules of kinds. `check` and `code` take every one, and `play` one
--- without a schedule and with one client, which never flushes.
-abbrev pub takes : Command → Parsed → Bool
-takes Check source = true
-takes Code source = true
-takes Play source = is_none source.tree.schedule && is_playable (program_of source).bodies
+-- the report of a program: the text of the steps of its played run's record, and of its ends
+pub record IsReport (p : Parts) (text : List ℕ) : Type 0 where
+  pub batches : List Batch
+  pub tails : List Tail
+  pub ends : List End
+  pub played : Played p batches tails ends
+  pub written : text ≡ report_text p.schema p.names (steps_of batches tails) ends
 
 -- What a command makes of a source: `check` the canonical text, `code` the listing of its clients' codes, and `play` the
 -- report of its run.
-abbrev pub Makes : Command → Parsed → List ℕ → Type 0
-Makes Check source text = text ≡ canonical source.tree
-Makes Code source text = text ≡ listing_of (program_of source)
-Makes Play source text = Reports (program_of source) text
-
--- the text of a command and a source which it takes
 abbrev pub TextOf : Command → Parsed → List ℕ → Type 0
-TextOf command source text = (takes command source ≡ true) × Makes command source text
+TextOf Check source text = text ≡ canonical source.tree
+TextOf Code source text = text ≡ listing_of (program_of source)
+TextOf Play source text = IsReport (program_of source) text
 
--- what a command asks of a source: that parsing answers a tree, which keeps the rules of kinds and which the command takes
-abbrev pub Accepts : Command → List ℕ → Type 0
-Accepts command text = (parsed : Parsed) × ParseAnswers text (Ok parsed) × KeepsKinds parsed × (takes command parsed ≡ true)
+-- what each command asks of a source: that parsing answers a tree, which keeps the rules of kinds
+abbrev pub Accepts : List ℕ → Type 0
+Accepts text = (parsed : Parsed) × ParseAnswers text (Ok parsed) × KeepsKinds parsed
 
--- What each status says of the whole text that the source had left. With success and with a write fault the command
--- accepts it; a place of a syntax fault and a limit are what parsing answers; a rule of kinds is the first that fails in the
--- tree that parsing answers; and the limit of the form comes where that tree keeps the rules and the command doesn't take it.
-abbrev pub Judges : Command → Status → List ℕ → Type 0
-Judges command status.Done text = Accepts command text
-Judges command status.Words text = ⊤
-Judges command status.ReadFault text = ⊤
-Judges command status.WriteFault text = Accepts command text
-Judges command (status.Syntax line column) text = ParseAnswers text (Err (fault.Syntax line column))
-Judges command (status.Kind rule line) text = (parsed : Parsed) × ParseAnswers text (Ok parsed) × KindAnswers parsed (Err (kind.Rule rule line))
-Judges command (status.Limit which.Form) text = (parsed : Parsed) × ParseAnswers text (Ok parsed) × KeepsKinds parsed × (takes command parsed ≡ false)
-Judges command (status.Limit w) text = ParseAnswers text (Err (fault.Limit w))
-Judges command status.Memory text = ⊤
+-- What each status says of the whole text that the source had left. With success and with a write fault a command accepts
+-- it; a place of a syntax fault and a limit are what parsing answers; and a rule of kinds is the first that fails in the
+-- tree that parsing answers.
+abbrev pub Judges : Status → List ℕ → Type 0
+Judges status.Done text = Accepts text
+Judges status.Words text = ⊤
+Judges status.ReadFault text = ⊤
+Judges status.WriteFault text = Accepts text
+Judges (status.Syntax line column) text = ParseAnswers text (Err (fault.Syntax line column))
+Judges (status.Kind rule line) text = (parsed : Parsed) × ParseAnswers text (Ok parsed) × KindAnswers parsed (Err (kind.Rule rule line))
+Judges (status.Limit w) text = ParseAnswers text (Err (fault.Limit w))
+Judges status.Memory text = ⊤
 
 -- the same, where there is a command and the source tells what it has left
 abbrev pub JudgesLeft : Option Command → Status → Option (List ℕ) → Type 0
 JudgesLeft None s left = ⊤
 JudgesLeft (Some command) s None = ⊤
-JudgesLeft (Some command) s (Some text) = Judges command s text
+JudgesLeft (Some command) s (Some text) = Judges s text
 
 -- the count of ends: it rose where the whole text was judged, and stands where no end was found
 abbrev pub EndSeen : Option Command → Status → ℕ → ℕ → Type 0
@@ -151,16 +150,16 @@ WritesLawful (Some Play) left held now = (parsed : Parsed) × (text : List ℕ) 
 abbrev pub Accepted : Option Command → Option (List ℕ) → Type 0
 Accepted None left = ⊥
 Accepted (Some command) None = ⊥
-Accepted (Some command) (Some text) = Accepts command text
+Accepted (Some command) (Some text) = Accepts text
 
 module _ where
   -- where memory ran out the sink holds what it held, and where the words are no command no end was looked for
   pub example_nothing_written : Writes (Some Play) status.Memory (Some (codes "schema { ")) (Some []) (Some (codes "x")) (Some (codes "x")) × EndSeen None status.Words 3 3
   example_nothing_written = (refl, refl)
 
-  -- the empty text isn't too long, and `check` takes every tree
-  pub example_judges : ¬ Judges Play (status.Limit which.Bytes) [] × ((text : List ℕ) → ¬ Judges Check (status.Limit which.Form) text)
-  example_judges = (not-suc-le-zero, λ text (parsed, answers, keeps, none). cc)
+  -- the empty text isn't too long
+  pub example_judges : ¬ Judges (status.Limit which.Bytes) []
+  example_judges = not-suc-le-zero
 
   abbrev idle : List ℕ → Client
   idle name = record { name = name; body = [] }
@@ -169,38 +168,21 @@ module _ where
   abbrev idlers : List Client → Program
   idlers clients = record { declarations = []; clients = clients; schedule = None }
 
-  -- the smallest source is accepted, and one that tells nothing isn't
-  pub example_accepted : Accepted (Some Check) (Some (codes "schema { } client a { }")) × ¬ Accepted (Some Check) None
+  -- a source of two clients is accepted, and one that tells nothing isn't
+  pub example_accepted : Accepted (Some Play) (Some (codes "schema { } client a { } client b { }")) × ¬ Accepted (Some Play) None
   unfolding scan_behind lexeme_at reserved words
   example_accepted =
-      let a = idle (codes "a") in (
+      let a = idle (codes "a") in
+      let b = idle (codes "b") in (
         (
-          record { tree = idlers (a ∷ []); lines = _ },
+          record { tree = idlers (a ∷ b ∷ []); lines = _ },
           (
             record { bytes = lit≤ tt; brackets = lit≤ tt },
-            record { whole = refl; spelled = program [] a [] None _ _ _ no_declarations (client (codes "a") [] _ (block [] _ no_statements)) no_clients },
-            record { numbers = tt; texts = tt; height = (lit≤ tt, tt); names = lit≤ tt; clients = lit≤ tt; steps = lit≤ tt },
+            record { whole = refl; spelled = program [] a (b ∷ []) None _ _ _ no_declarations (client (codes "a") [] _ (block [] _ no_statements)) (more_clients b [] None _ _ (client (codes "b") [] _ (block [] _ no_statements)) no_clients) },
+            record { numbers = tt; texts = tt; height = (lit≤ tt, (lit≤ tt, tt)); names = lit≤ tt; clients = lit≤ tt; steps = lit≤ tt },
             refl,
           ),
           refl,
-          refl,
         ),
         λ h. h,
-      )
-
-  -- `play` takes no two clients
-  pub example_form : Judges Play (status.Limit which.Form) (codes "schema { } client a { } client b { }")
-  unfolding scan_behind lexeme_at reserved words
-  example_form =
-      let a = idle (codes "a") in
-      let b = idle (codes "b") in (
-        record { tree = idlers (a ∷ b ∷ []); lines = _ },
-        (
-          record { bytes = lit≤ tt; brackets = lit≤ tt },
-          record { whole = refl; spelled = program [] a (b ∷ []) None _ _ _ no_declarations (client (codes "a") [] _ (block [] _ no_statements)) (more_clients b [] None _ _ (client (codes "b") [] _ (block [] _ no_statements)) no_clients) },
-          record { numbers = tt; texts = tt; height = (lit≤ tt, (lit≤ tt, tt)); names = lit≤ tt; clients = lit≤ tt; steps = lit≤ tt },
-          refl,
-        ),
-        refl,
-        refl,
       )

@@ -4,7 +4,7 @@ ghost use Rattle.cloud_parse.specs.declared.parsed.Parsed.{Parsed};
 ghost use Rattle.cloud_run.specs.declared.command.Command.{Command};
 ghost use Rattle.cloud_run.specs.Top.{TextOf};
 
-use one_client::runs_come_out_once;
+use played_record::records_of_played_runs;
 
 /// A command makes one text of a source at most.
 #[tactic(auto, using(crate::proofs::Calls::one_text))]
@@ -12,5 +12,5 @@ pub fn texts_come_out_once()
     ensures { (command : Command) (source : Parsed) (a b : List ℕ) → TextOf command source a
         → TextOf command source b → a ≡ b }
 {
-    runs_come_out_once();
+    records_of_played_runs();
 }

@@ -7,6 +7,8 @@ mod cases;
 mod command;
 mod flows;
 #[cfg(test)]
+mod further_sources;
+#[cfg(test)]
 mod kinds;
 mod laws;
 #[cfg(test)]
@@ -17,6 +19,8 @@ mod packet_tests;
 mod packets;
 #[cfg(test)]
 mod reports;
+#[cfg(test)]
+mod runs;
 #[cfg(test)]
 mod sources;
 mod status;

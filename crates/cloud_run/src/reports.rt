@@ -147,15 +147,3 @@ end a Done
 ",
     ),
 ];
-
-/// Sources that `check` accepts and `play` doesn't take.
-pub(crate) const NOT_PLAYED: &[&str] = &[
-    "schema { } client a { flush; }",
-    "schema { } client a { } client b { }",
-    "schema { } client a { } schedule { }",
-    "schema { } client a { } schedule { a 1; }",
-    "schema { } client a { while false { if true { } else { flush; } } }",
-    "schema { entity E { } } client a { foreach e in all E { flush; } }",
-    "schema { array A[k: int] { p: CInt } }
-client a { foreach k in entries A.p { if true { flush; } } }",
-];

@@ -1,5 +1,4 @@
-// Whole sources, their canonical texts and their listings, and the reports of those that `play`
-// takes.
+// Whole sources, their canonical texts, their listings and the reports of their runs.
 
 pub(crate) const SOURCES: &[(&str, &str, &str, &str)] = &[
     (
@@ -58,7 +57,12 @@ client b
 16 say
 17 end
 ",
-        "",
+        "fork 0 1 a
+fork 0 2 b
+say 2 15000
+end a Spent
+end b Done
+",
     ),
     (
         "schema { global g : CInt; array A[k: string] { p: CInt } }\n\
@@ -225,7 +229,91 @@ client i
 4 say
 5 end
 "#,
-        "",
+        r#"fork 0 1 a
+fork 0 2 b
+fork 0 3 c
+fork 0 4 d
+fork 0 5 e
+fork 0 6 f
+fork 0 7 h
+fork 0 8 i
+do 2 g.add(1)
+do 2 A["b"].p.add(1)
+mark 2 flush
+fork 2 9 b
+join 0 2
+fork 0 10 b
+do 1 g.add(1)
+do 1 A["a"].p.add(1)
+mark 1 flush
+fork 1 11 a
+join 0 1
+fork 0 12 a
+do 4 g.set(9)
+mark 4 flush
+fork 4 13 d
+join 0 4
+fork 0 14 d
+ask 5 g = 0
+say 5 0
+mark 5 yield
+fork 5 15 e
+join 0 5
+fork 0 16 e
+mark 8 flush
+fork 8 17 i
+join 0 8
+fork 0 18 i
+join 12 11
+mark 12 flush
+fork 12 19 a
+join 0 12
+fork 0 20 a
+join 10 9
+mark 10 flush
+fork 10 21 b
+join 0 10
+fork 0 22 b
+mark 15 yield
+join 16 15
+fork 16 23 e
+join 0 16
+fork 0 24 e
+mark 23 yield
+join 24 23
+fork 24 25 e
+join 0 24
+join 20 19
+ask 20 g = 9
+say 20 9
+join 22 21
+ask 22 g = 9
+say 22 9
+do 3 g.add(1)
+do 3 A["a"].p.add(1)
+mark 3 yield
+fork 3 26 c
+ask 26 g = 1
+say 26 1
+join 14 13
+ask 14 g = 9
+say 14 9
+ask 25 entries A.p = [("a"), ("b")]
+say 25 "a"
+say 25 "b"
+do 7 g.add(1)
+join 18 17
+ask 18 g = 9
+say 18 9
+end a Done
+end b Done
+end c Done
+end d Done
+end e Done
+end f Done
+end h Done
+end i Done
+"#,
     ),
     (
         "schema { } client a { yield; flush; } client b { } schedule { serve b pass; a 1; \
@@ -253,7 +341,21 @@ schedule {
 client b
 0 end
 ",
-        "",
+        "fork 0 1 a
+fork 0 2 b
+mark 1 yield
+fork 1 3 a
+join 0 1
+fork 0 4 a
+mark 3 flush
+join 4 3
+fork 4 5 a
+join 0 4
+fork 0 6 a
+join 6 5
+end a Done
+end b Done
+",
     ),
     (
         "// Every fate once, on one client's pushes, and another that watches.\n\
@@ -368,239 +470,65 @@ client b
 15 say
 16 end
 ",
-        "",
-    ),
-    (
-        "// Two people and one list, each offline for a while.\n\
-         schema { array Grocery[item: string] { need: CInt; note: CString } global shops : \
-         CInt; }\n\
-         client ann {\n\
-         \x20 Grocery[\"milk\"].need.add(2);\n\
-         \x20 Grocery[\"tea\"].need.add(1);\n\
-         \x20 yield;\n\
-         \x20 Grocery[\"milk\"].note.setIfEmpty(\"oat\");\n\
-         \x20 flush;\n\
-         \x20 foreach i in entries Grocery.need { print i; print Grocery[i].need; print \
-         Grocery[i].note; }\n\
-         }\n\
-         client bob {\n\
-         \x20 Grocery[\"milk\"].need.add(3);\n\
-         \x20 Grocery[\"milk\"].note.setIfEmpty(\"fresh\");\n\
-         \x20 shops.add(1);\n\
-         \x20 flush;\n\
-         \x20 Grocery[\"milk\"].need.add(-5);\n\
-         \x20 yield;\n\
-         \x20 foreach i in entries Grocery.need { print i; }\n\
-         \x20 print shops;\n\
-         }\n\
-         schedule { ann 4; bob 5; serve bob hold; bob 1; serve ann losereply; ann 2; serve bob \
-         pass; serve ann pass; bob 3; }\n",
-        r#"schema {
-  array Grocery[item: string] {
-    need: CInt;
-    note: CString;
-  }
-  global shops : CInt;
-}
-client ann {
-  Grocery["milk"].need.add(2);
-  Grocery["tea"].need.add(1);
-  yield;
-  Grocery["milk"].note.setIfEmpty("oat");
-  flush;
-  foreach i in entries Grocery.need {
-    print i;
-    print Grocery[i].need;
-    print Grocery[i].note;
-  }
-}
-client bob {
-  Grocery["milk"].need.add(3);
-  Grocery["milk"].note.setIfEmpty("fresh");
-  shops.add(1);
-  flush;
-  Grocery["milk"].need.add(-5);
-  yield;
-  foreach i in entries Grocery.need {
-    print i;
-  }
-  print shops;
-}
-schedule {
-  ann 4;
-  bob 5;
-  serve bob hold;
-  bob 1;
-  serve ann losereply;
-  ann 2;
-  serve bob pass;
-  serve ann pass;
-  bob 3;
-}
-"#,
-        r#"client ann
-0 begin
-1 push "milk"
-2 push 2
-3 put.add 1 1
-4 begin
-5 push "tea"
-6 push 1
-7 put.add 1 1
-8 begin
-9 yield
-10 begin
-11 push "milk"
-12 push "oat"
-13 put.empty 2 1
-14 begin
-15 flush
-16 begin
-17 entries 1
-18 next 32 1
-19 store 0
-20 begin
-21 load 0
-22 say
-23 begin
-24 load 0
-25 get 1 1
-26 say
-27 begin
-28 load 0
-29 get 2 1
-30 say
-31 jump 18
-32 end
-client bob
-0 begin
-1 push "milk"
-2 push 3
-3 put.add 1 1
-4 begin
-5 push "milk"
-6 push "fresh"
-7 put.empty 2 1
-8 begin
-9 push 1
-10 put.add 0 0
-11 begin
-12 flush
-13 begin
-14 push "milk"
-15 push 5
-16 neg
-17 put.add 1 1
-18 begin
-19 yield
-20 begin
-21 entries 1
-22 next 28 1
-23 store 0
-24 begin
-25 load 0
-26 say
-27 jump 22
-28 begin
-29 get 0 0
-30 say
-31 end
-"#,
-        "",
-    ),
-    (
-        "// A flush whose push is lost is pushed again by the sweeps.\n\
-         schema { global g : CInt; global s : CString; }\n\
-         client a { g.add(1); s.set(\"a\"); flush; g.add(2); flush; print g; print s; }\n\
-         client b { g.add(4); s.setIfEmpty(\"b\"); yield; yield; print g; print s; flush; \
-         print g; print s; }\n\
-         schedule { b 3; a 3; serve a losepush; a 1; serve a losereply; a 1; serve b hold; b \
-         1; serve b pass; serve a twice; }\n",
-        r#"schema {
-  global g : CInt;
-  global s : CString;
-}
-client a {
-  g.add(1);
-  s.set("a");
-  flush;
-  g.add(2);
-  flush;
-  print g;
-  print s;
-}
-client b {
-  g.add(4);
-  s.setIfEmpty("b");
-  yield;
-  yield;
-  print g;
-  print s;
-  flush;
-  print g;
-  print s;
-}
-schedule {
-  b 3;
-  a 3;
-  serve a losepush;
-  a 1;
-  serve a losereply;
-  a 1;
-  serve b hold;
-  b 1;
-  serve b pass;
-  serve a twice;
-}
-"#,
-        r#"client a
-0 begin
-1 push 1
-2 put.add 0 0
-3 begin
-4 push "a"
-5 put.set 1 0
-6 begin
-7 flush
-8 begin
-9 push 2
-10 put.add 0 0
-11 begin
-12 flush
-13 begin
-14 get 0 0
-15 say
-16 begin
-17 get 1 0
-18 say
-19 end
-client b
-0 begin
-1 push 4
-2 put.add 0 0
-3 begin
-4 push "b"
-5 put.empty 1 0
-6 begin
-7 yield
-8 begin
-9 yield
-10 begin
-11 get 0 0
-12 say
-13 begin
-14 get 1 0
-15 say
-16 begin
-17 flush
-18 begin
-19 get 0 0
-20 say
-21 begin
-22 get 1 0
-23 say
-24 end
-"#,
-        "",
+        "fork 0 1 a
+fork 0 2 b
+do 1 n.add(1)
+mark 1 yield
+fork 1 3 a
+join 0 1
+fork 0 4 a
+do 3 n.add(10)
+mark 3 yield
+join 4 3
+fork 4 5 a
+join 0 4
+fork 0 6 a
+do 5 n.add(100)
+mark 5 yield
+join 6 5
+fork 6 7 a
+join 0 6
+fork 0 8 a
+mark 2 yield
+fork 2 9 b
+join 0 2
+fork 0 10 b
+mark 9 yield
+join 10 9
+fork 10 11 b
+join 0 10
+fork 0 12 b
+mark 11 yield
+join 12 11
+fork 12 13 b
+join 0 12
+do 7 n.add(1000)
+mark 7 yield
+do 7 n.add(10000)
+mark 7 yield
+do 7 n.add(100000)
+mark 7 flush
+join 8 7
+fork 8 14 a
+join 0 8
+fork 0 15 a
+fork 0 16 b
+mark 13 yield
+ask 13 n = 111
+say 13 111
+mark 13 flush
+join 16 13
+fork 16 17 b
+join 0 16
+fork 0 18 b
+join 15 14
+ask 15 n = 111111
+say 15 111111
+join 18 17
+ask 18 n = 111111
+say 18 111111
+end a Done
+end b Done
+",
     ),
 ];

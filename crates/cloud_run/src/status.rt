@@ -57,7 +57,6 @@ fn limit_name(which: Which) -> &'static str
         Which::Names => "Names",
         Which::Clients => "Clients",
         Which::Steps => "Steps",
-        Which::Form => "Form",
     }
 }
 

@@ -1,9 +1,11 @@
 // Commands over sources and sinks in memory.
 use crate::arguments::given_words;
 use crate::cases::CASES;
+use crate::further_sources::FURTHER_SOURCES;
 use crate::kinds::{ALONE, KEPT, KEYS, OPERATIONS, OTHERS, SHOP, TAKEN, UNKNOWN};
 use crate::more_sources::MORE_SOURCES;
-use crate::reports::{NOT_PLAYED, REPORTS};
+use crate::reports::REPORTS;
+use crate::runs::{RUNS, TOLD};
 use crate::sources::SOURCES;
 use crate::{Command, Status, Words, top, top_plain};
 use cloud_base::{MemSink, MemSource, StdSink, StdSource};
@@ -92,15 +94,21 @@ fn clients(alloc: Global, count: u32) -> Result<String, Fail> {
 #[test]
 fn prints_reports(rt: HostRuntime) -> Result<(), Fail> {
     let alloc = rt.alloc();
-    for (source, report) in REPORTS {
-        let (status, sink) = played(alloc, source)?;
-        assert_eq!(rt; status, Status::Done, "at {source}");
-        assert_eq!(rt; sink.held(), report.as_bytes(), "at {source}");
+    for table in [REPORTS, RUNS] {
+        for (source, report) in table {
+            let (status, sink) = played(alloc, source)?;
+            assert_eq!(rt; status, Status::Done, "at {source}");
+            assert_eq!(rt; sink.held(), report.as_bytes(), "at {source}");
+        }
     }
-    for source in NOT_PLAYED {
-        let (status, sink) = played(alloc, source)?;
-        assert_eq!(rt; status, Status::Limit(Which::Form), "at {source}");
-        assert!(rt; sink.held().is_empty(), "at {source}");
+    for (source, told) in TOLD {
+        let (_, sink) = played(alloc, source)?;
+        let Ok(report) = str::from_utf8(sink.held()) else {
+            return Err(Fail::from("not a text"));
+        };
+        let mut lines = report.lines();
+        let all = told.iter().all(|wanted| lines.any(|line| line == *wanted));
+        assert!(rt; all, "at {source}");
     }
     Ok(())
 }
@@ -138,9 +146,9 @@ fn refuses_texts_and_words(rt: HostRuntime) -> Result<(), Fail> {
         let (status, _sink) = played(alloc, padded(alloc, spaces)?.as_str())?;
         assert_eq!(rt; status, wanted, "at {spaces} spaces");
     }
-    let status = Status::Limit(Which::Form);
+    let status = Status::Limit(Which::Steps);
     assert_eq!(rt; status.number(), 6);
-    assert_eq!(rt; status.to_string(alloc)?.as_str(), "limit Form");
+    assert_eq!(rt; status.to_string(alloc)?.as_str(), "limit Steps");
     for given in [&[][..], &["play", "x"][..], &["plays"][..], &["Play"][..]] {
         let mut source = MemSource::new(alloc, SMALL.as_bytes(), 1, Some(0))?;
         let mut sink = MemSink::new(alloc, 1, 0)?;
@@ -203,7 +211,7 @@ fn tells_kinds(rt: HostRuntime) -> Result<(), Fail> {
 #[test]
 fn prints_sources(rt: HostRuntime) -> Result<(), Fail> {
     let alloc = rt.alloc();
-    for table in [SOURCES, MORE_SOURCES] {
+    for table in [SOURCES, MORE_SOURCES, FURTHER_SOURCES] {
         for (source, canonical, listing, report) in table {
             let (_, sink) = checked(alloc, source)?;
             assert_eq!(rt; sink.held(), canonical.as_bytes(), "at {source}");

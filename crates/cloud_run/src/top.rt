@@ -1,21 +1,21 @@
 // The top call: one command, from the source's bytes to the sink's.
-ghost use Rattle.std.specs.Prelude.{◌≡◌, false, Some, Err, IfOk, IfErr, IfSome, OnOk, MatchOption};
+ghost use Rattle.std.specs.Prelude.{Some, Err, IfOk, IfErr, OnOk};
 ghost use Rattle.kind_check.specs.KindAnswers.{KindAnswers};
 ghost use Rattle.cloud_run.specs.Commands.{command_of};
 ghost use Rattle.cloud_run.specs.Runs.{ReadsTree, Runs};
 ghost use Rattle.cloud_run.specs.Top.{KeepsKinds, ParsesAgain, ListsCodes, ReportsRun};
-ghost use Rattle.cloud_run.specs.Top.{program_of, takes, IsLawfulText, TextOf};
+ghost use Rattle.cloud_run.specs.Top.{program_of, IsLawfulText, TextOf};
 
 use crate::command::Command;
 use crate::flows::{ReadError, take_all, write_all};
 use crate::status::Status;
 use crate::words::Words;
 use cloud_base::{Failed, Sequence, Sink, Source};
-use cloud_drive::play;
-use cloud_parse::{ParseFault, Parsed, Which, one_answer, parse};
+use cloud_parse::{ParseFault, Parsed, one_answer, parse};
+use cloud_play::run;
 use code_gen::{codes_mean_bodies, listing};
+use diagram_text::{report, reports_are_diagrams};
 use kind_check::{KindFault, check};
-use one_client::{is_playable, runs_are_lawful, runs_are_told};
 use print_parses::print_parses;
 use source_print::print;
 use source_tokens::scanned_tokens;
@@ -71,43 +71,33 @@ fn code_listing(alloc: Global, source: Parsed) -> Result<Sequence<u8>, KindFault
     Ok(Sequence::from_vec(text))
 }
 
-// The report of the run of a source's program, if `play` takes it.
-#[tactic(auto, using(crate::proofs::Calls::played))]
-fn report(alloc: Global, source: Parsed) -> Result<Option<Sequence<u8>>, KindFault>
-    ensures text { IfOk result (λ text.
-        MatchOption text (takes Command.Play source ≡ false) (TextOf Command.Play source)) }
-    ensures lawful { IfOk result (λ text. IfSome text (ReportsRun (program_of source))) }
+// The report of the run of a source's program.
+#[tactic(auto, using(crate::proofs::Calls::reported))]
+fn report_of(alloc: Global, source: Parsed) -> Result<Sequence<u8>, KindFault>
+    ensures text { IfOk result (TextOf Command.Play source) }
+    ensures lawful { IfOk result (ReportsRun (program_of source)) }
     ensures kinds { OnOk result (KeepsKinds source) }
     ensures fault { IfErr result (λ fault. KindAnswers source (Err fault)) }
 {
-    let scheduled = source.tree.program().schedule.is_some();
     let program = check(alloc, source)?;
-    if scheduled || !is_playable(&program) {
-        return Ok(None);
-    }
     let _ = program.schema();
-    runs_are_lawful();
-    runs_are_told();
-    let text = play(alloc, &program)?;
-    Ok(Some(Sequence::from_vec(text)))
+    reports_are_diagrams();
+    let history = run(alloc, &program)?;
+    let text = report(alloc, &program, &history)?;
+    Ok(Sequence::from_vec(text))
 }
 
-// The text that the command makes of a source, if it takes the source.
-fn text_of(
-    alloc: Global,
-    command: Command,
-    source: Parsed,
-) -> Result<Option<Sequence<u8>>, KindFault>
-    ensures text { IfOk result (λ text.
-        MatchOption text (takes command source ≡ false) (TextOf command source)) }
-    ensures lawful { IfOk result (λ text. IfSome text (IsLawfulText command source)) }
+// The text that the command makes of a source.
+fn text_of(alloc: Global, command: Command, source: Parsed) -> Result<Sequence<u8>, KindFault>
+    ensures text { IfOk result (TextOf command source) }
+    ensures lawful { IfOk result (IsLawfulText command source) }
     ensures kinds { OnOk result (KeepsKinds source) }
     ensures fault { IfErr result (λ fault. KindAnswers source (Err fault)) }
 {
     match command {
-        Command::Check => Ok(Some(canonical_text(alloc, source)?)),
-        Command::Code => Ok(Some(code_listing(alloc, source)?)),
-        Command::Play => report(alloc, source),
+        Command::Check => canonical_text(alloc, source),
+        Command::Code => code_listing(alloc, source),
+        Command::Play => report_of(alloc, source),
     }
 }
 
@@ -123,8 +113,7 @@ fn obey<S: Source, K: Sink>(alloc: Global, command: Command, source: &mut S, sin
         Err(status) => return status,
     };
     let text = match text_of(alloc, command, parsed) {
-        Ok(Some(text)) => text,
-        Ok(None) => return Status::Limit(Which::Form),
+        Ok(text) => text,
         Err(KindFault::Rule { rule, line }) => return Status::Kind { rule, line },
         Err(KindFault::Memory) => return Status::Memory,
     };

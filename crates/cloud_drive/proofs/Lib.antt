@@ -1,4 +1,0 @@
-mod Following
-mod Growing
-mod Printing
-mod Walking
